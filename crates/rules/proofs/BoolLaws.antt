@@ -1,0 +1,25 @@
+-- Truth values.
+use mathlib.Core.Path.{_≡_, refl, sym, _∙_}
+use mathlib.Core.Bool.{Bool, true, false, _||_, _&&_, not, cond, false≢true}
+
+-- Two truth values are equal where each holds if the other does.
+pub bool-iff : (a b : Bool) → (a ≡ true → b ≡ true) → (b ≡ true → a ≡ true) → a ≡ b
+bool-iff true b f g = sym (f refl)
+bool-iff false true f g = g refl
+bool-iff false false f g = refl
+
+pub both : (a b : Bool) → a && b ≡ true → (a ≡ true) × (b ≡ true)
+both true b e = (refl, e)
+both false b e = absurd (false≢true e)
+
+pub either : (a b : Bool) → a || b ≡ true → (a ≡ false) → b ≡ true
+either true b e f = absurd (false≢true (sym f))
+either false b e f = e
+
+pub not-true-is-false : (a : Bool) → not a ≡ true → a ≡ false
+not-true-is-false true e = absurd (false≢true e)
+not-true-is-false false e = refl
+
+pub is-false : (a : Bool) → (a ≡ true → ⊥) → a ≡ false
+is-false true f = absurd (f refl)
+is-false false f = refl

@@ -1,0 +1,64 @@
+-- The laws of the mirrored order.
+use mathlib.Core.Path.{_≡_, refl, sym, ap, _∙_}
+use Prim.Native.Nat.{ℕ, zero, suc, _+_, _*_, _/_, _%_, _^_, _<_}
+use native.Mathlib.Nat.{pow-suc, add-zero, add-suc, div-one, mod-eq-of-lt, div-div-eq-div-mul, mul-add-mod-self-right}
+use native.Mathlib.Omega.{arith}
+use lib.Dec.{lit<}
+use lib.Bits.{block-odd, block-half}
+use lib.Pow.{pow-add}
+use Rattle.rules.specs.Mirror.{mirrored}
+
+bit-lt : (b m n : ℕ) → b < 2 → m < n → b * n + m < n * 2
+bit-lt zero m n hb h = omega arith
+bit-lt (suc zero) m n hb h = omega arith
+bit-lt (suc (suc b)) m n hb h = absurd (omega arith)
+
+-- What is mirrored stays below 2^k.
+pub mirror-lt : (k p : ℕ) → mirrored k p < 2 ^ k
+unfolding mirrored
+mirror-lt zero p = lit< tt
+mirror-lt (suc k) p = rw (pow-suc 2 k) (bit-lt (p % 2) (mirrored k (p / 2)) (2 ^ k) (omega arith) (mirror-lt k (p / 2)))
+
+-- The highest bit becomes the lowest.
+pub mirror-high : (k b m : ℕ) → b < 2 → m < 2 ^ k → mirrored (suc k) (b * 2 ^ k + m) ≡ mirrored k m * 2 + b
+unfolding mirrored
+mirror-high zero b m hb hm =
+    let e : b * 1 + m ≡ b = omega arith in
+    rw e (omega arith)
+mirror-high (suc j) b m hb hm =
+    let h : m / 2 < 2 ^ j = omega arith in
+    rw (block-odd b j m, block-half b j m)
+    (ap (λ (x : ℕ). m % 2 * 2 ^ suc j + x) (mirror-high j b (m / 2) hb h) ∙ rw (pow-suc 2 j) (omega arith))
+
+-- Mirroring twice gives the number back.
+pub mirror-mirror : (k p : ℕ) → p < 2 ^ k → mirrored k (mirrored k p) ≡ p
+unfolding mirrored
+mirror-mirror zero p h = omega arith
+mirror-mirror (suc k) p h =
+    let h′ : p / 2 < 2 ^ k = omega arith in
+    mirror-high k (p % 2) (mirrored k (p / 2)) (omega arith) (mirror-lt k (p / 2))
+    ∙ rw (mirror-mirror k (p / 2) h′) (omega arith)
+
+-- The lowest K bits of what is mirrored are the highest K, mirrored.
+pub mirror-low : (d K p : ℕ) → mirrored (K + d) p % 2 ^ K ≡ mirrored K (p / 2 ^ d)
+unfolding mirrored
+mirror-low zero K p = rw (add-zero K, div-one p) (mod-eq-of-lt (mirror-lt K p))
+mirror-low (suc d) K p =
+    let r : p / 2 / 2 ^ d ≡ p / 2 ^ suc d = div-div-eq-div-mul p 2 (2 ^ d) ∙ ap (λ (x : ℕ). p / x) (omega arith) in
+    let s : p % 2 * 2 ^ (K + d) ≡ p % 2 * 2 ^ d * 2 ^ K = rw (pow-add 2 K d) (omega arith) in
+    rw (add-suc K d, s, mul-add-mod-self-right (p % 2 * 2 ^ d) (2 ^ K) (mirrored (K + d) (p / 2)), mirror-low d K (p / 2), r)
+
+-- The two children of a node: the position's new lowest bit is the class's new highest bit.
+pub mirror-left : (k p : ℕ) → mirrored (suc k) (2 * p) ≡ mirrored k p
+unfolding mirrored
+mirror-left k p =
+    let e : 2 * p % 2 ≡ 0 = omega arith in
+    let h : 2 * p / 2 ≡ p = omega arith in
+    rw (e, h) (omega arith)
+
+pub mirror-right : (k p : ℕ) → mirrored (suc k) (2 * p + 1) ≡ 2 ^ k + mirrored k p
+unfolding mirrored
+mirror-right k p =
+    let e : (2 * p + 1) % 2 ≡ 1 = omega arith in
+    let h : (2 * p + 1) / 2 ≡ p = omega arith in
+    rw (e, h) (omega arith)

@@ -1,0 +1,75 @@
+-- Admit: handle, interval in slots, floor, ceiling; each 0 to 2^32 - 1.
+use Prim.Native.Nat.{ℕ, _+_, _-_, _*_, _^_}
+use mathlib.Core.Bool.{Bool, true, false, not, _||_}
+use mathlib.Core.List.{List, [], _∷_}
+use mathlib.Core.Option.{Option, none, some, Option·getD}
+use lib.Dec.{leb, ltb, eqb}
+use lib.ListN.{set}
+use Rattle.rules.specs.declared.Connection.{Connection}
+use Rattle.rules.specs.declared.Schedule.{Schedule}
+use Rattle.rules.specs.declared.Interval.{Interval}
+use Rattle.rules.specs.declared.Interval.the-variants.{Gives, Outside}
+use Rattle.rules.specs.declared.Share.{Share}
+use Rattle.rules.specs.declared.Share.the-variants.{Fits, Wrong}
+use Rattle.rules.specs.declared.Place.{Place}
+use Rattle.rules.specs.declared.Place.the-variants.{At, Nowhere}
+use Rattle.rules.specs.Below.{largest, least}
+use Rattle.rules.specs.Time.{blockSlots, blockMicros, guardMicros}
+use Rattle.rules.specs.Core.{isInterval}
+use Rattle.rules.specs.Ownership.{largestK, taken}
+use Rattle.rules.specs.Classes.{runFree}
+use Rattle.rules.specs.Mirror.{mirrored}
+use Rattle.rules.specs.Good.{scheduleOf}
+use Rattle.rules.specs.Refusals.{check, decided}
+use Rattle.rules.specs.Answers.{Answer, Outcome, refusing, ok}
+use Rattle.rules.specs.Handles.{aboveHandles, isLive}
+
+-- 4: "interval below 6 or above 3,200"
+abbrev pub intervalOutside : ℕ → Bool
+intervalOutside interval = not (isInterval interval)
+
+-- "k is the largest with 6 × 2^k not above the interval."
+unfoldable pub kOf : ℕ → ℕ
+unfolding largest
+kOf interval = largest largestK (λ k. leb (blockSlots * 2 ^ k) interval)
+
+-- 5: "floor 0, ceiling below floor, or ceiling above F"
+abbrev pub shareWrong : ℕ → ℕ → ℕ → Bool
+shareWrong floor ceiling F = eqb floor 0 || ltb ceiling floor || ltb F ceiling
+
+-- "An anchor A is open if every block (A + j) mod F, j below floor, is free in all its periods."
+unfoldable pub isOpen : (ℕ → Bool) → ℕ → ℕ → ℕ → Bool
+unfolding runFree
+isOpen taken k floor A = runFree taken k A floor
+
+-- "Anchors are tried in the order of their node numbers 2^k + mirrored A, and the first anchor whose whole run is free is
+-- taken": the position p of its node, from 0 on.
+unfoldable pub firstOpen : (ℕ → Bool) → ℕ → ℕ → Option ℕ
+unfolding least isOpen mirrored
+firstOpen taken k floor = least (2 ^ k) (λ p. isOpen taken k floor (mirrored k p))
+
+-- 6: "no open anchor"
+abbrev pub noOpenAnchor : Option ℕ → Bool
+noOpenAnchor none = true
+noOpenAnchor (some p) = false
+
+-- "L is the floor; the estimate is L × 7,500 - 2,500."
+abbrev pub newConnection : ℕ → ℕ → ℕ → ℕ → Connection
+newConnection k A floor ceiling = record { live = true; k = k; anchor = A; length = floor; floor = floor; ceiling = ceiling; estimate = floor * blockMicros - guardMicros }
+
+-- "Checks 1, 2, 4, 5, 6. .. Answer: F, A, L."
+unfoldable pub admit : Schedule → ℕ → ℕ → ℕ → ℕ → Outcome
+unfolding isInterval kOf firstOpen scheduleOf decided
+admit s handle interval floor ceiling =
+    let k = kOf interval in
+    let place = firstOpen (taken (s .connections)) k floor in
+    let A = mirrored k (Option·getD place 0) in
+    let after = scheduleOf (set (s .connections) handle (newConnection k A floor ceiling)) in
+    decided
+    (check 1 (aboveHandles handle)
+    ∷ check 2 (isLive s handle)
+    ∷ check 4 (intervalOutside interval)
+    ∷ check 5 (shareWrong floor ceiling (2 ^ k))
+    ∷ check 6 (noOpenAnchor place)
+    ∷ [])
+    (refusing s) (record { answer = ok (2 ^ k) A floor; schedule = after })

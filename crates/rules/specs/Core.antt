@@ -1,0 +1,35 @@
+-- What the Bluetooth Core Specification (version 5.4) says, as far as it is used here.
+use Prim.Native.Nat.{ℕ, _*_, _≤_}
+use mathlib.Core.Bool.{Bool, not, _&&_}
+use mathlib.Core.Path.{_≡_}
+use lib.Dec.{leb}
+use lib.IntN.{ℤ, pos, _-ℤ_, _*ℤ_}
+use Rattle.rules.specs.Time.{slotMicros, blockSlots}
+
+-- A connection interval is a whole number of units of 1.25 ms, a slot each.
+abbrev pub intervalMicros : ℕ → ℕ
+intervalMicros units = units * slotMicros
+
+-- It has 6 to 3,200 units: 7.5 ms to 4 s.
+unfoldable pub isInterval : ℕ → Bool
+isInterval units = leb 6 units && leb units 3200
+
+-- "The base interval is one block."
+abbrev pub baseInterval : ℕ
+baseInterval = blockSlots
+
+-- connSubrateFactor, connSubrateBaseEvent and connContinuationNumber of one connection.
+pub record Subrating : Type 0 where
+  pub factor : ℕ
+  pub baseEvent : ℕ
+  pub continuation : ℕ
+
+-- A connection event is a subrated event exactly if its counter less connSubrateBaseEvent is a multiple of
+-- connSubrateFactor. Counters run over all integers.
+abbrev pub Subrated : Subrating → ℤ → Type 0
+Subrated r event = (q : ℤ) × (event -ℤ pos (r .baseEvent) ≡ q *ℤ pos (r .factor))
+
+-- An event is used exactly if it is a subrated event, or one of the connContinuationNumber continuation events that
+-- follow one: the event j before it is a subrated one, with j at most connContinuationNumber.
+abbrev pub Used : Subrating → ℤ → Type 0
+Used r event = (j : ℕ) × (j ≤ r .continuation) × Subrated r (event -ℤ pos j)

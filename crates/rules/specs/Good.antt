@@ -1,0 +1,37 @@
+-- Good schedules, and the fresh one.
+use Prim.Native.Nat.{ℕ}
+use mathlib.Core.Path.{_≡_}
+use mathlib.Core.Bool.{true, false}
+use mathlib.Core.List.{List}
+use lib.ListN.{replicate}
+use Rattle.rules.specs.declared.Connection.{Connection}
+use Rattle.rules.specs.declared.Schedule.{Schedule}
+use Rattle.rules.specs.Ownership.{handles, nobody, at, taken}
+use Rattle.rules.specs.TreeBytes.{treeOf}
+use Rattle.rules.specs.Sound.{sound}
+
+-- The tree of a list of connections: that of the blocks that belong to a live one.
+unfoldable pub treeFor : List Connection → List ℕ
+unfolding treeOf taken
+treeFor cs = treeOf (taken cs)
+
+-- "A call may assume only that the schedule given to it is sound and has the tree described below."
+pub record Good (s : Schedule) : Type 0 where
+  pub isSound : sound (s .connections) ≡ true
+  pub hasTree : s .tree .bytes ≡ treeFor (s .connections)
+
+-- A free slot is all zeros: no part of what a call may assume, and kept by every call.
+abbrev pub FreeSlotsZero : Schedule → Type 0
+FreeSlotsZero s = (h : ℕ) → at (s .connections) h .live ≡ false → at (s .connections) h ≡ nobody
+
+-- The connections with their tree.
+unfoldable pub scheduleOf : List Connection → Schedule
+unfolding treeFor
+scheduleOf cs =
+    let bytes = treeFor cs in
+    record { connections = cs; tree = record { bytes = bytes } }
+
+-- The fresh schedule: no handle has a connection.
+unfoldable pub fresh : Schedule
+unfolding scheduleOf
+fresh = scheduleOf (replicate handles nobody)

@@ -1,0 +1,25 @@
+-- The rule sheet as definitions, in the order to read them.
+pub mod Below
+pub mod Time
+pub mod Core
+pub mod Ownership
+pub mod Classes
+pub mod Mirror
+pub mod Nodes
+pub mod TreeBytes
+pub mod Sound
+pub mod Good
+pub mod Refusals
+pub mod Answers
+pub mod Handles
+pub mod Admit
+pub mod Steps
+pub mod Drop
+pub mod Meter
+pub mod Report
+pub mod Owner
+pub mod Anchor
+pub mod Bytes
+pub mod Image
+pub mod Save
+pub mod Load

@@ -1,0 +1,119 @@
+-- Load: image bytes.
+use Prim.Native.Nat.{ℕ, zero, suc, _+_, _-_}
+use mathlib.Core.Bool.{Bool, true, false, not, _||_, _&&_, cond}
+use mathlib.Core.List.{List, [], _∷_, _++_, map}
+use lib.Dec.{leb, ltb, eqb}
+use lib.ListN.{length, take, drop, set, replicate}
+use Rattle.rules.specs.declared.Connection.{Connection}
+use Rattle.rules.specs.declared.Schedule.{Schedule}
+use Rattle.rules.specs.Ownership.{handles, nobody}
+use Rattle.rules.specs.Sound.{soundNumbers, apart}
+use Rattle.rules.specs.Good.{treeFor, scheduleOf}
+use Rattle.rules.specs.Refusals.{check, decided}
+use Rattle.rules.specs.Answers.{Answer, Outcome, refusing, loaded}
+use Rattle.rules.specs.Bytes.{littleNumber, same}
+use Rattle.rules.specs.Image.{Piece, joined}
+
+-- The record that bytes begin with, by its length and kind, and the records after it; n bounds how many.
+unfoldable pub piecesIn : ℕ → List ℕ → List Piece
+unfolding littleNumber
+piecesIn zero bytes = []
+piecesIn (suc n) [] = []
+piecesIn (suc n) (b ∷ bs) =
+    let bytes = b ∷ bs in
+    let size = littleNumber (take 2 bytes) in
+    record { kind = littleNumber (take 2 (drop 2 bytes)); payload = take size (drop 4 bytes) }
+    ∷ piecesIn n (drop (4 + size) bytes)
+
+-- The count that a first record of kind 1 says.
+unfoldable pub countIn : List Piece → ℕ
+unfolding littleNumber
+countIn [] = 0
+countIn (r ∷ rs) = littleNumber (r .payload)
+
+-- The records have the kinds, sizes, order and number of an image.
+unfoldable pub shaped : List Piece → Bool
+unfolding countIn same
+shaped rs =
+    let n = countIn rs in
+    leb n handles
+    && same (map (λ (r : Piece). r .kind) rs) (1 ∷ (replicate n 2 ++ (3 ∷ [])))
+    && same (map (λ (r : Piece). length (r .payload)) rs) (2 ∷ (replicate n 14 ++ (128 ∷ [])))
+
+-- 9: "sizes, kinds, order or number of records wrong, n above 64, or bytes missing or left over": the bytes are not such
+-- records one after the other.
+unfoldable pub recordsWrong : List ℕ → List Piece → Bool
+unfolding joined same shaped
+recordsWrong bytes rs = not (same (joined rs) bytes && shaped rs)
+
+-- The records of kind 2.
+unfoldable pub connectionsIn : List Piece → List Piece
+connectionsIn [] = []
+connectionsIn (r ∷ rs) =
+    let later = connectionsIn rs in
+    cond (eqb (r .kind) 2) (r ∷ later) later
+
+-- "handle (1), k (1), A (2), L (2), floor (2), ceiling (2), estimate (4)"
+abbrev pub fieldIn : Piece → ℕ → ℕ → ℕ
+fieldIn r start width = littleNumber (take width (drop start (r .payload)))
+
+unfoldable pub handleIn : Piece → ℕ
+unfolding littleNumber
+handleIn r = fieldIn r 0 1
+
+unfoldable pub connectionIn : Piece → Connection
+unfolding littleNumber
+connectionIn r =
+    record {
+      live = true;
+      k = fieldIn r 1 1;
+      anchor = fieldIn r 2 2;
+      length = fieldIn r 4 2;
+      floor = fieldIn r 6 2;
+      ceiling = fieldIn r 8 2;
+      estimate = fieldIn r 10 4;
+    }
+
+-- The numbers are sound, and each handle is at least h and above the one before it.
+unfoldable pub soundPieces : ℕ → List Piece → Bool
+unfolding handleIn connectionIn soundNumbers
+soundPieces h [] = true
+soundPieces h (r ∷ rs) =
+    ltb (handleIn r) handles
+    && leb h (handleIn r)
+    && soundNumbers (connectionIn r)
+    && soundPieces (suc (handleIn r)) rs
+
+-- 10: "a connection's numbers not sound, or handles not strictly rising"
+unfoldable pub numbersUnsound : List Piece → Bool
+unfolding connectionsIn soundPieces
+numbersUnsound rs = not (soundPieces 0 (connectionsIn rs))
+
+-- The connections of the records, each at its handle.
+unfoldable pub restored : List Piece → List Connection
+unfolding handleIn connectionIn
+restored [] = replicate handles nobody
+restored (r ∷ rs) = set (restored rs) (handleIn r) (connectionIn r)
+
+-- The tree bytes of the records: what those of kind 3 hold.
+unfoldable pub treeIn : List Piece → List ℕ
+treeIn [] = []
+treeIn (r ∷ rs) =
+    let later = treeIn rs in
+    cond (eqb (r .kind) 3) (r .payload ++ later) later
+
+-- "Checks 9, 10, 11, 12, each over the whole image before the next. Accepted, the image's schedule replaces the old one; the
+-- answer is n."
+unfoldable pub load : Schedule → List ℕ → Outcome
+unfolding piecesIn recordsWrong numbersUnsound restored connectionsIn apart treeIn treeFor same scheduleOf countIn decided
+load s bytes =
+    let rs = piecesIn (length bytes) bytes in
+    let cs = restored (connectionsIn rs) in
+    let after = scheduleOf cs in
+    decided
+    (check 9 (recordsWrong bytes rs)
+    ∷ check 10 (numbersUnsound rs)
+    ∷ check 11 (not (apart cs))
+    ∷ check 12 (not (same (treeIn rs) (treeFor cs)))
+    ∷ [])
+    (refusing s) (record { answer = loaded (countIn rs); schedule = after })

@@ -1,0 +1,126 @@
+//! The types of the base. What they mean stands in specs/, one notion to a file.
+
+// ---- the schedule
+
+/// A connection's share of the radio; its handle is its place in the schedule.
+pub struct Connection {
+    pub live: bool,
+    pub k: u8,
+    pub anchor: u16,
+    pub length: u16,
+    pub floor: u16,
+    pub ceiling: u16,
+    pub estimate: u32,
+}
+
+/// The tree of taken blocks: node n is bit n mod 8 of byte n div 8.
+pub struct Tree {
+    pub bytes: [u8; 128],
+}
+
+/// One gateway's schedule: the connection of each handle, and the tree of the blocks that they take.
+pub struct Schedule {
+    pub connections: [Connection; 64],
+    pub tree: Tree,
+}
+
+// ---- the answers
+
+/// Why a call is refused: a case for each row of the refusal table.
+pub enum Refusal {
+    HandleAbove63,
+    HandleLive,
+    HandleNotLive,
+    IntervalOutside,
+    ShareWrong,
+    NoOpenAnchor,
+    SampleAboveRun,
+    BufferShort,
+    RecordsWrong,
+    NumbersUnsound,
+    BlockOwnedTwice,
+    TreeDiffers,
+}
+
+/// What an interval gives: the k of its factor 2^k, or nothing.
+pub enum Interval {
+    Gives(u8),
+    Outside,
+}
+
+/// Whether a floor and a ceiling are a share of a factor.
+pub enum Share {
+    Fits,
+    Wrong,
+}
+
+/// The first open anchor in node order, or none.
+pub enum Place {
+    At(u16),
+    Nowhere,
+}
+
+pub enum Admission {
+    Placed {
+        factor: u16,
+        anchor: u16,
+        length: u16,
+    },
+    Refused(Refusal),
+}
+
+pub enum Dropping {
+    Done,
+    Refused(Refusal),
+}
+
+/// A report's answer, with the length that it leaves.
+pub enum Reporting {
+    Kept(u16),
+    Grown(u16),
+    Shrunk(u16),
+    Tight(u16),
+    Refused(Refusal),
+}
+
+pub enum Ownership {
+    Handle(u8),
+    Idle,
+}
+
+pub enum Distance {
+    Slots(u32),
+    Refused(Refusal),
+}
+
+pub enum Saving {
+    Size(usize),
+    Refused(Refusal),
+}
+
+pub enum Loading {
+    Count(u8),
+    Refused(Refusal),
+}
+
+// ---- an answer beside the schedule that it leaves
+
+pub struct Admitted {
+    pub answer: Admission,
+    pub schedule: Schedule,
+}
+
+pub struct Dropped {
+    pub answer: Dropping,
+    pub schedule: Schedule,
+}
+
+pub struct Reported {
+    pub answer: Reporting,
+    pub schedule: Schedule,
+}
+
+pub struct Loaded {
+    pub answer: Loading,
+    pub schedule: Schedule,
+}

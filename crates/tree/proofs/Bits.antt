@@ -1,0 +1,200 @@
+-- Shifts, masks, and one bit written into a list of bytes.
+use mathlib.Core.Path.{_≡_, refl, sym, ap, _∙_}
+use mathlib.Core.Bool.{Bool, true, false, _||_, _&&_, not, cond, Bool·beq, or-true, or-false, and-true, and-false, false≢true}
+use mathlib.Core.List.{List}
+use mathlib.Core.Logic.{_≢_, by-cases}
+use Prim.Native.Nat.{ℕ, zero, suc, _+_, _-_, _*_, _/_, _%_, _^_, _<_, _≤_}
+use native.Mathlib.Nat.{mod-eq-of-lt, one-mul, pow-suc, mul-le-mul-right}
+use native.Mathlib.Numerals.{add-one}
+use native.Mathlib.Decide.{ℕ-discrete}
+use native.Mathlib.Omega.{arith}
+use lib.Bits.{bitOr, bitAnd, and-mask, or-shr, or-mod, or-zero-l, or-lt, and-shr, and-mod, and-zero-l, and-le-l, or-shifted}
+use lib.Pow.{pow-lt, pow-mono, pow-add}
+use lib.Dec.{eqb, eqb·suc-suc, eqb·suc-zero, eqb·zero-suc, lit<}
+use lib.ListN.{length, getD, set, length-set}
+use lib.Seq.{getD-set-same, getD-set-other}
+use borrow.Author.Tests.{eq-eqb, ne-eqb}
+use Rattle.rules.specs.Below.{every}
+use Rattle.rules.specs.Mirror.{mirrored}
+use Rattle.rules.specs.TreeBytes.{bitOf, bitAt, Sized}
+use Rattle.tree.specs.Promises.{Writes}
+use Rattle.rules.proofs.BelowLaws.{every-at}
+use Rattle.rules.proofs.MirrorLaws.{mirror-lt}
+
+-- ---- masks as remainders, at the literals that the code has
+pub and1 : (n : ℕ) → bitAnd n 1 ≡ n % 2
+and1 n = and-mask n 1
+
+pub and7 : (n : ℕ) → bitAnd n 7 ≡ n % 8
+and7 n = and-mask n 3
+
+-- `1u8 << (n & 7)`
+pub one-shl : (n : ℕ) → 1 * 2 ^ bitAnd n 7 % 256 ≡ 2 ^ (n % 8)
+one-shl n =
+    let h : n % 8 < 8 = omega arith in
+    rw (and7 n, one-mul) (mod-eq-of-lt (pow-lt h))
+
+pub eqb-iff : (a b c d : ℕ) → (a ≡ b → c ≡ d) → (c ≡ d → a ≡ b) → eqb a b ≡ eqb c d
+eqb-iff a b c d f g =
+    by-cases (ℕ-discrete a b)
+    (λ e. eq-eqb a b e ∙ sym (eq-eqb c d (f e)))
+    (λ e. ne-eqb a b e ∙ sym (ne-eqb c d (λ h. e (g h))))
+
+-- ---- the bits of a byte with one bit set, and with one bit cleared
+or2 : (p q : ℕ) → p < 2 → q < 2 → eqb (bitOr p q) 1 ≡ eqb p 1 || eqb q 1
+or2 zero q hp hq = ap (λ (r : ℕ). eqb r 1) (or-zero-l q)
+or2 (suc zero) zero hp hq = refl
+or2 (suc zero) (suc zero) hp hq = refl
+or2 (suc zero) (suc (suc q)) hp hq = absurd (omega arith)
+or2 (suc (suc p)) q hp hq = absurd (omega arith)
+
+or-bit : (a b j : ℕ) → bitOf (bitOr a b) j ≡ bitOf a j || bitOf b j
+or-bit a b j =
+    ap (λ (r : ℕ). eqb (r % 2) 1) (or-shr a b j)
+    ∙ ap (λ (r : ℕ). eqb r 1) (or-mod (a / 2 ^ j) (b / 2 ^ j) 1)
+    ∙ or2 (a / 2 ^ j % 2) (b / 2 ^ j % 2) (omega arith) (omega arith)
+
+and2 : (p q : ℕ) → p < 2 → q < 2 → eqb (bitAnd p q) 1 ≡ eqb p 1 && eqb q 1
+and2 zero q hp hq = ap (λ (r : ℕ). eqb r 1) (and-zero-l q)
+and2 (suc zero) zero hp hq = refl
+and2 (suc zero) (suc zero) hp hq = refl
+and2 (suc zero) (suc (suc q)) hp hq = absurd (omega arith)
+and2 (suc (suc p)) q hp hq = absurd (omega arith)
+
+and-bit : (a b j : ℕ) → bitOf (bitAnd a b) j ≡ bitOf a j && bitOf b j
+and-bit a b j =
+    ap (λ (r : ℕ). eqb (r % 2) 1) (and-shr a b j)
+    ∙ ap (λ (r : ℕ). eqb r 1) (and-mod (a / 2 ^ j) (b / 2 ^ j) 1)
+    ∙ and2 (a / 2 ^ j % 2) (b / 2 ^ j % 2) (omega arith) (omega arith)
+
+-- a test of two numbers below 8, computed at each
+beq-true : (a b : Bool) → Bool·beq a b ≡ true → a ≡ b
+beq-true true true e = refl
+beq-true true false e = absurd (false≢true e)
+beq-true false true e = absurd (false≢true e)
+beq-true false false e = refl
+
+at-8-8 : (f g : ℕ → ℕ → Bool) → every 8 (λ i. every 8 (λ j. Bool·beq (f i j) (g i j))) ≡ true → (i j : ℕ) → i < 8 → j < 8 → f i j ≡ g i j
+at-8-8 f g e i j hi hj =
+    beq-true (f i j) (g i j)
+    (every-at 8 (λ j. Bool·beq (f i j) (g i j)) (every-at 8 (λ i. every 8 (λ j. Bool·beq (f i j) (g i j))) e i hi) j hj)
+
+pow-bit : (i j : ℕ) → i < 8 → j < 8 → bitOf (2 ^ i) j ≡ eqb j i
+unfolding every
+pow-bit = at-8-8 (λ i j. bitOf (2 ^ i) j) (λ i j. eqb j i) refl
+
+mask-bit : (i j : ℕ) → i < 8 → j < 8 → bitOf (255 - 2 ^ i) j ≡ not (eqb j i)
+unfolding every
+mask-bit = at-8-8 (λ i j. bitOf (255 - 2 ^ i) j) (λ i j. not (eqb j i)) refl
+
+or-cond : (e b : Bool) → b || e ≡ cond e true b
+or-cond true b = or-true b
+or-cond false b = or-false b
+
+and-cond : (e b : Bool) → b && not e ≡ cond e false b
+and-cond true b = and-false b
+and-cond false b = and-true b
+
+pub set-bit : (x i j : ℕ) → i < 8 → j < 8 → bitOf (bitOr x (2 ^ i)) j ≡ cond (eqb j i) true (bitOf x j)
+set-bit x i j hi hj =
+    or-bit x (2 ^ i) j ∙ ap (λ (v : Bool). bitOf x j || v) (pow-bit i j hi hj) ∙ or-cond (eqb j i) (bitOf x j)
+
+pub clear-bit : (x i j : ℕ) → i < 8 → j < 8 → bitOf (bitAnd x (255 - 2 ^ i)) j ≡ cond (eqb j i) false (bitOf x j)
+clear-bit x i j hi hj =
+    and-bit x (255 - 2 ^ i) j ∙ ap (λ (v : Bool). bitOf x j && v) (mask-bit i j hi hj) ∙ and-cond (eqb j i) (bitOf x j)
+
+pub set-byte : (x i : ℕ) → x < 256 → i < 8 → bitOr x (2 ^ i) < 256
+set-byte x i hx hi = or-lt 8 x (2 ^ i) hx (pow-lt hi)
+
+pub clear-byte : (x y : ℕ) → x < 256 → bitAnd x y < 256
+clear-byte x y hx = omega (arith, and-le-l x y)
+
+-- ---- one byte of the tree replaced by one that differs in the bit of node n alone
+module _ (t : List ℕ) (n y : ℕ) (v : Bool) (sized : Sized t) (hn : n < 1024)
+    (written : (j : ℕ) → j < 8 → bitOf y j ≡ cond (eqb j (n % 8)) v (bitOf (getD t (n / 8) 0) j)) where
+  inside : n / 8 < length t
+  inside = omega (arith, sized .long)
+
+  pub written-bits : (m : ℕ) → bitAt (set t (n / 8) y) m ≡ cond (eqb m n) v (bitAt t m)
+  written-bits m =
+      by-cases (ℕ-discrete (m / 8) (n / 8))
+      (λ e.
+      rw (e, getD-set-same t (n / 8) y 0 inside)
+      (written (m % 8) (omega arith)
+      ∙ ap (λ (u : Bool). cond u v (bitOf (getD t (n / 8) 0) (m % 8))) (eqb-iff (m % 8) (n % 8) m n (λ q. omega arith) (λ q. omega arith))))
+      (λ e. rw (getD-set-other t (n / 8) (m / 8) y 0 e, ne-eqb m n (λ q. e (ap (λ (k : ℕ). k / 8) q))))
+
+  pub written-sized : y < 256 → Sized (set t (n / 8) y)
+  written-sized small =
+      record {
+        long = length-set t (n / 8) y ∙ sized .long;
+        small = λ i.
+            by-cases (ℕ-discrete i (n / 8))
+            (λ e. rw (e, getD-set-same t (n / 8) y 0 inside) small)
+            (λ e. rw (getD-set-other t (n / 8) i y 0 e) (sized .small i));
+      }
+
+-- what `write_node` stores: the byte with the node's bit set, and with it cleared
+module _ (t : List ℕ) (n : ℕ) (sized : Sized t) (hn : n < 1024) where
+  pub sets : Writes n true t (set t (n / 8) (bitOr (getD t (n / 8) 0) (1 * 2 ^ bitAnd n 7 % 256)))
+  sets =
+      let w : (j : ℕ) → j < 8 → bitOf (bitOr (getD t (n / 8) 0) (2 ^ (n % 8))) j ≡ cond (eqb j (n % 8)) true (bitOf (getD t (n / 8) 0) j) =
+      λ j h. set-bit (getD t (n / 8) 0) (n % 8) j (omega arith) h in
+      rw (one-shl n)
+      (record {
+        sized = written-sized t n _ true sized hn w (set-byte (getD t (n / 8) 0) (n % 8) (sized .small (n / 8)) (omega arith));
+        bits = written-bits t n _ true sized hn w;
+      })
+
+  pub clears : Writes n false t (set t (n / 8) (bitAnd (getD t (n / 8) 0) (255 - 1 * 2 ^ bitAnd n 7 % 256)))
+  clears =
+      let w : (j : ℕ) → j < 8 → bitOf (bitAnd (getD t (n / 8) 0) (255 - 2 ^ (n % 8))) j ≡ cond (eqb j (n % 8)) false (bitOf (getD t (n / 8) 0) j) =
+      λ j h. clear-bit (getD t (n / 8) 0) (n % 8) j (omega arith) h in
+      rw (one-shl n)
+      (record {
+        sized = written-sized t n _ false sized hn w (clear-byte (getD t (n / 8) 0) (255 - 2 ^ (n % 8)) (sized .small (n / 8)));
+        bits = written-bits t n _ false sized hn w;
+      })
+
+-- ---- mirroring
+-- `(r << 1) | (q & 1)`
+shl-or : (r q : ℕ) → r < 512 → bitOr (r * 2 % 4294967296) (bitAnd q 1) ≡ r * 2 + q % 2
+shl-or r q h =
+    let e : r * 2 % 4294967296 ≡ r * 2 = omega arith in
+    let l : q % 2 < 2 ^ 1 = omega arith in
+    rw (e, and1) (or-shifted r 1 (q % 2) l)
+
+one-bit-on : (r q j : ℕ) → (r * 2 + q % 2) * 2 ^ j + mirrored j (q / 2) ≡ r * 2 ^ suc j + mirrored (suc j) q
+unfolding mirrored
+one-bit-on r q j = rw (pow-suc 2 j) (omega arith)
+
+-- a turn of the loop keeps its invariant
+pub mirror-turn : (k p r q i : ℕ) → k ≤ 9 → i < k → r < 2 ^ i → r * 2 ^ (k - i) + mirrored (k - i) q ≡ mirrored k p
+    → (i + 1 ≤ k) × (bitOr (r * 2 % 4294967296) (bitAnd q 1) < 2 ^ (i + 1))
+    × (bitOr (r * 2 % 4294967296) (bitAnd q 1) * 2 ^ (k - (i + 1)) + mirrored (k - (i + 1)) (q / 2) ≡ mirrored k p)
+mirror-turn k p r q i hk hi hr e =
+    let i9 : i < 9 = omega arith in
+    let l : 2 ^ i < 512 = pow-lt i9 in
+    let s : k - i ≡ suc (k - (i + 1)) = omega arith in
+    rw (shl-or r q (omega arith))
+    (omega arith, rw (add-one i) (omega arith), one-bit-on r q (k - (i + 1)) ∙ rw s at e)
+
+-- the bit of depth k above what is mirrored
+pub node-number : (k r : ℕ) → k ≤ 9 → bitOr (1 * 2 ^ k % 4294967296) (mirrored k r) ≡ 2 ^ k + mirrored k r
+node-number k r h =
+    let k32 : k < 32 = omega arith in
+    let e : 1 * 2 ^ k % 4294967296 ≡ 1 * 2 ^ k = mod-eq-of-lt (rw one-mul (pow-lt k32)) in
+    rw e (or-shifted 1 k (mirrored k r) (mirror-lt k r) ∙ omega arith)
+
+-- the node of a class lies in the tree, and so does all that is below it
+pub node-lt : (k r : ℕ) → k ≤ 9 → 2 ^ k + mirrored k r < 1024
+node-lt k r h =
+    let g : 2 ^ k ≤ 512 = pow-mono h in
+    omega (arith, mirror-lt k r)
+
+pub node-room : (k r : ℕ) → k ≤ 9 → (2 ^ k + mirrored k r + 1) * 2 ^ (9 - k) ≤ 1024
+node-room k r h =
+    let s : k + (9 - k) ≡ 9 = omega arith in
+    let e : 2 ^ k * 2 ^ (9 - k) ≡ 512 = sym (pow-add 2 k (9 - k)) ∙ ap (λ (x : ℕ). 2 ^ x) s in
+    let g : 2 ^ k + mirrored k r + 1 ≤ 2 ^ k + 2 ^ k = omega (arith, mirror-lt k r) in
+    omega (arith, e, mul-le-mul-right (2 ^ (9 - k)) g)

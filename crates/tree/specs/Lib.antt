@@ -1,0 +1,3 @@
+-- What the tree's functions promise.
+pub mod Under
+pub mod Promises

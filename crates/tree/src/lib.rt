@@ -1,0 +1,126 @@
+//! The tree of taken blocks: 128 bytes, a bit for each node.
+ghost use mathlib.Core.Path.{_≡_};
+ghost use Prim.Native.Nat.{_+_, _*_, _<_, _≤_, _^_};
+ghost use Rattle.rules.specs.Classes.{depth, nothing};
+ghost use Rattle.rules.specs.Mirror.{mirrored};
+ghost use Rattle.rules.specs.TreeBytes.{treeOf, bitAt, Sized};
+ghost use Rattle.tree.specs.Promises.{Mirrored, Writes, WritesBelow, Joins, MissingAbove, JoinsAbove, FreeSays, IsTree, WritesClass, Takes, GivesBack};
+
+/// The tree of which no block is taken.
+pub fn empty() -> [u8; 128]
+    ensures { λ r. ⌜ r ≡ treeOf nothing ⌝ }
+{
+    [0u8; 128]
+}
+
+/// p with its k bits in mirrored order.
+pub fn mirror(k: u32, p: u32) -> u32
+    requires { ⌜ k ≤ depth ⌝ }
+    ensures { λ r. ⌜ Mirrored k p r ⌝ }
+{
+    let mut r: u32 = 0;
+    let mut q = p;
+    let mut i: u32 = 0;
+    while i < k {
+        r = (r << 1) | (q & 1);
+        q = q >> 1;
+        i += 1;
+    }
+    r
+}
+
+/// The node that covers the class of r for the factor 2^k.
+pub fn node(k: u32, r: u32) -> usize
+    requires { ⌜ k ≤ depth ⌝ }
+    ensures { λ n. ⌜ n ≡ 2 ^ k + mirrored k r ⌝ }
+{
+    ((1u32 << k) | mirror(k, r)) as usize
+}
+
+/// A node's bit.
+pub fn is_set(tree: &[u8; 128], n: usize) -> bool
+    requires { ⌜ n < 1024 ⌝ }
+    ensures { λ r. ⌜ r ≡ bitAt (now (tree .entry)) n ⌝ }
+{
+    (tree[n >> 3] >> (n & 7)) & 1 == 1
+}
+
+/// Whether the class of r for the factor 2^k is free.
+pub fn is_free(tree: &[u8; 128], k: u32, r: u32) -> bool
+    requires { ⌜ (k ≤ depth) × (r < 2 ^ k) ⌝ }
+    ensures { λ b. ⌜ FreeSays k r (now (tree .entry)) b ⌝ }
+{
+    !is_set(tree, node(k, r))
+}
+
+fn write_node(tree: &mut [u8; 128], n: usize, taken: bool)
+    requires { ⌜ (n < 1024) × Sized (now tree) ⌝ }
+    ensures { λ _. ⌜ Writes n taken (now (tree .entry)) (now (tree .exit)) ⌝ }
+{
+    let at = n >> 3;
+    let bit = 1u8 << (n & 7);
+    if taken {
+        tree[at] = tree[at] | bit;
+    } else {
+        tree[at] = tree[at] & !bit;
+    }
+}
+
+// Marking a node reaches every node beneath it, `left` levels down to the leaves.
+fn write_below(tree: &mut [u8; 128], n: usize, left: u32, taken: bool)
+    requires { ⌜ ((n + 1) * 2 ^ left ≤ 1024) × Sized (now tree) ⌝ }
+    ensures { λ _. ⌜ WritesBelow left n taken (now (tree .entry)) (now (tree .exit)) ⌝ }
+{
+    write_node(tree, n, taken);
+    if 0 < left {
+        write_below(tree, 2 * n, left - 1, taken);
+        write_below(tree, 2 * n + 1, left - 1, taken);
+    }
+}
+
+// Node n becomes the OR of its two children.
+fn join(tree: &mut [u8; 128], n: usize)
+    requires { ⌜ (0 < n) × (n < 512) × Sized (now tree) ⌝ }
+    ensures { λ _. ⌜ Joins n (now (tree .entry)) (now (tree .exit)) ⌝ }
+{
+    let either = is_set(tree, 2 * n) || is_set(tree, 2 * n + 1);
+    write_node(tree, n, either);
+}
+
+// Each ancestor of n becomes the OR of its two children, from below.
+fn join_above(tree: &mut [u8; 128], n: usize)
+    requires { ⌜ (0 < n) × (n < 1024) × Sized (now tree) × MissingAbove n (now tree) ⌝ }
+    ensures { λ _. ⌜ JoinsAbove n (now (tree .entry)) (now (tree .exit)) ⌝ }
+{
+    let mut v = n;
+    while 1 < v {
+        v = v >> 1;
+        join(tree, v);
+    }
+}
+
+// The node of a class, with all nodes under it, gets one bit; then its ancestors follow.
+fn write_class(tree: &mut [u8; 128], k: u32, r: u32, taken: bool)
+    requires { ⌜ (k ≤ depth) × (r < 2 ^ k) × IsTree (now tree) ⌝ }
+    ensures { λ _. ⌜ WritesClass k r taken (now (tree .entry)) (now (tree .exit)) ⌝ }
+{
+    let n = node(k, r);
+    write_below(tree, n, 9 - k, taken);
+    join_above(tree, n);
+}
+
+/// Takes the class of r for the factor 2^k.
+pub fn take_class(tree: &mut [u8; 128], k: u32, r: u32)
+    requires { ⌜ (k ≤ depth) × (r < 2 ^ k) × IsTree (now tree) ⌝ }
+    ensures { λ _. ⌜ Takes k r (now (tree .entry)) (now (tree .exit)) ⌝ }
+{
+    write_class(tree, k, r, true);
+}
+
+/// Gives the class of r for the factor 2^k back.
+pub fn give_back(tree: &mut [u8; 128], k: u32, r: u32)
+    requires { ⌜ (k ≤ depth) × (r < 2 ^ k) × IsTree (now tree) ⌝ }
+    ensures { λ _. ⌜ GivesBack k r (now (tree .entry)) (now (tree .exit)) ⌝ }
+{
+    write_class(tree, k, r, false);
+}
