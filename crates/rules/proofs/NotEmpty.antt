@@ -24,7 +24,7 @@ single k A e = record { live = true; k = k; anchor = A; length = 1; floor = 1; c
 -- ---- good schedules
 pub fresh-is-good : Good fresh
 unfolding fresh sound
-fresh-is-good = scheduled-good (replicate handles nobody) refl
+fresh-is-good = scheduled-good (replicate handles nobody) refl refl
 
 -- 64 connections, each with one block in 64.
 pub house : List Connection
@@ -33,7 +33,7 @@ house = tabulate handles (λ h. single 6 h 5000)
 
 pub house-is-good : Good (scheduleOf house)
 unfolding house sound
-house-is-good = scheduled-good house refl
+house-is-good = scheduled-good house refl refl
 
 -- F 4, anchor 3, L 2: its run goes round the end of the cycle, to blocks 3 and 0.
 pub round : List Connection
@@ -41,7 +41,7 @@ round = set (replicate handles nobody) 0 (record { live = true; k = 2; anchor = 
 
 pub round-is-good : Good (scheduleOf round)
 unfolding round sound
-round-is-good = scheduled-good round refl
+round-is-good = scheduled-good round refl refl
 
 -- ---- schedules that are not good
 -- Any good schedule with a node's bit flipped.
@@ -71,7 +71,7 @@ over e = set (replicate handles nobody) 0 (single 3 5 e)
 
 pub full-estimate-is-good : Good (scheduleOf (over 7500))
 unfolding over sound
-full-estimate-is-good = scheduled-good (over 7500) refl
+full-estimate-is-good = scheduled-good (over 7500) refl refl
 
 pub over-is-not-good : Good (scheduleOf (over 7501)) → ⊥
 unfolding over sound scheduleOf

@@ -7,12 +7,13 @@ use Prim.Native.Nat.{ℕ, zero, suc, _+_, _*_, _%_, _^_, _<_, _≤_}
 use native.Mathlib.Decide.{ℕ-discrete, decLe}
 use native.Mathlib.Omega.{arith}
 use lib.Dec.{leb, ltb}
+use lib.ListN.{length}
 use borrow.Author.Tests.{le-leb, leb-true, lt-ltb, ltb-true}
 use Rattle.rules.specs.declared.Connection.{Connection}
 use Rattle.rules.specs.declared.Schedule.{Schedule}
 use Rattle.rules.specs.Below.{any}
 use Rattle.rules.specs.Time.{blockMicros, listBlocks}
-use Rattle.rules.specs.Ownership.{largestK, factor, nobody, at, belongs, owns, taken, ownedTwice}
+use Rattle.rules.specs.Ownership.{handles, largestK, factor, nobody, at, belongs, owns, taken, ownedTwice}
 use Rattle.rules.specs.Classes.{depth, free}
 use Rattle.rules.specs.Sound.{soundNumbers, allSound, apart, sound}
 use Rattle.rules.specs.Good.{Good, scheduleOf}
@@ -198,7 +199,7 @@ class-free-ever cs k r s hk hr =
       λ none. ever .1 (λ b m. is-false (taken cs b) (λ t. let w = taken-at cs b t in false≢true (sym (none b (w .0) m) ∙ w .1))),
     )
 
--- Sound connections with their tree are a good schedule.
-pub scheduled-good : (cs : List Connection) → sound cs ≡ true → Good (scheduleOf cs)
+-- 64 sound connections with their tree are a good schedule.
+pub scheduled-good : (cs : List Connection) → length cs ≡ handles → sound cs ≡ true → Good (scheduleOf cs)
 unfolding scheduleOf
-scheduled-good cs e = record { isSound = e; hasTree = refl }
+scheduled-good cs l e = record { places = l; isSound = e; hasTree = refl }

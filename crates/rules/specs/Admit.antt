@@ -7,12 +7,6 @@ use lib.Dec.{leb, ltb, eqb}
 use lib.ListN.{set}
 use Rattle.rules.specs.declared.Connection.{Connection}
 use Rattle.rules.specs.declared.Schedule.{Schedule}
-use Rattle.rules.specs.declared.Interval.{Interval}
-use Rattle.rules.specs.declared.Interval.the-variants.{Gives, Outside}
-use Rattle.rules.specs.declared.Share.{Share}
-use Rattle.rules.specs.declared.Share.the-variants.{Fits, Wrong}
-use Rattle.rules.specs.declared.Place.{Place}
-use Rattle.rules.specs.declared.Place.the-variants.{At, Nowhere}
 use Rattle.rules.specs.Below.{largest, least}
 use Rattle.rules.specs.Time.{blockSlots, blockMicros, guardMicros}
 use Rattle.rules.specs.Core.{isInterval}
@@ -20,8 +14,8 @@ use Rattle.rules.specs.Ownership.{largestK, taken}
 use Rattle.rules.specs.Classes.{runFree}
 use Rattle.rules.specs.Mirror.{mirrored}
 use Rattle.rules.specs.Good.{scheduleOf}
-use Rattle.rules.specs.Refusals.{check, decided}
-use Rattle.rules.specs.Answers.{Answer, Outcome, refusing, ok}
+use Rattle.rules.specs.Refusals.{Check, check, decided}
+use Rattle.rules.specs.Answers.{Outcome, refusing, ok}
 use Rattle.rules.specs.Handles.{aboveHandles, isLive}
 
 -- 4: "interval below 6 or above 3,200"
@@ -57,19 +51,31 @@ noOpenAnchor (some p) = false
 abbrev pub newConnection : ℕ → ℕ → ℕ → ℕ → Connection
 newConnection k A floor ceiling = record { live = true; k = k; anchor = A; length = floor; floor = floor; ceiling = ceiling; estimate = floor * blockMicros - guardMicros }
 
--- "Checks 1, 2, 4, 5, 6. .. Answer: F, A, L."
-unfoldable pub admit : Schedule → ℕ → ℕ → ℕ → ℕ → Outcome
-unfolding isInterval kOf firstOpen scheduleOf decided
-admit s handle interval floor ceiling =
-    let k = kOf interval in
-    let place = firstOpen (taken (s .connections)) k floor in
-    let A = mirrored k (Option·getD place 0) in
-    let after = scheduleOf (set (s .connections) handle (newConnection k A floor ceiling)) in
-    decided
-    (check 1 (aboveHandles handle)
+-- "Checks 1, 2, 4, 5, 6."
+unfoldable pub admitChecks : Schedule → ℕ → ℕ → ℕ → ℕ → List Check
+unfolding isInterval kOf firstOpen taken
+admitChecks s handle interval floor ceiling =
+    check 1 (aboveHandles handle)
     ∷ check 2 (isLive s handle)
     ∷ check 4 (intervalOutside interval)
-    ∷ check 5 (shareWrong floor ceiling (2 ^ k))
-    ∷ check 6 (noOpenAnchor place)
-    ∷ [])
-    (refusing s) (record { answer = ok (2 ^ k) A floor; schedule = after })
+    ∷ check 5 (shareWrong floor ceiling (2 ^ kOf interval))
+    ∷ check 6 (noOpenAnchor (firstOpen (taken (s .connections)) (kOf interval) floor))
+    ∷ []
+
+-- The anchor that is taken.
+unfoldable pub anchorFor : Schedule → ℕ → ℕ → ℕ
+unfolding firstOpen taken mirrored
+anchorFor s k floor = mirrored k (Option·getD (firstOpen (taken (s .connections)) k floor) 0)
+
+-- "Answer: F, A, L."
+unfoldable pub admitDone : Schedule → ℕ → ℕ → ℕ → ℕ → Outcome
+unfolding kOf anchorFor scheduleOf
+admitDone s handle k floor ceiling =
+    let A = anchorFor s k floor in
+    let after = scheduleOf (set (s .connections) handle (newConnection k A floor ceiling)) in
+    record { answer = ok (2 ^ k) A floor; schedule = after }
+
+unfoldable pub admit : Schedule → ℕ → ℕ → ℕ → ℕ → Outcome
+unfolding admitChecks admitDone decided
+admit s handle interval floor ceiling =
+    decided (admitChecks s handle interval floor ceiling) (refusing s) (admitDone s handle (kOf interval) floor ceiling)

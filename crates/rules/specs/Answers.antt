@@ -59,46 +59,46 @@ lengthIn (saved n) = 0
 lengthIn (loaded n) = 0
 
 -- ---- the sheet's number and values for every case of every enum
-abbrev pub admission : Admission → Answer
-admission (Placed F A L) = ok F A L
-admission (AdmissionRefused r) = refused (number r)
+abbrev pub ofAdmission : Admission → Answer
+ofAdmission (Placed F A L) = ok F A L
+ofAdmission (AdmissionRefused r) = refused (number r)
 
-abbrev pub dropping : Dropping → Answer
-dropping Done = dropped
-dropping (DroppingRefused r) = refused (number r)
+abbrev pub ofDropping : Dropping → Answer
+ofDropping Done = dropped
+ofDropping (DroppingRefused r) = refused (number r)
 
-abbrev pub reporting : Reporting → Answer
-reporting (Kept L) = kept L
-reporting (Grown L) = grown L
-reporting (Shrunk L) = shrunk L
-reporting (Tight L) = tight L
-reporting (ReportingRefused r) = refused (number r)
+abbrev pub ofReporting : Reporting → Answer
+ofReporting (Kept L) = kept L
+ofReporting (Grown L) = grown L
+ofReporting (Shrunk L) = shrunk L
+ofReporting (Tight L) = tight L
+ofReporting (ReportingRefused r) = refused (number r)
 
-abbrev pub ownership : Ownership → Answer
-ownership (Handle h) = owner h
-ownership Idle = idle
+abbrev pub ofOwnership : Ownership → Answer
+ofOwnership (Handle h) = owner h
+ofOwnership Idle = idle
 
-abbrev pub distance : Distance → Answer
-distance (Slots n) = slots n
-distance (DistanceRefused r) = refused (number r)
+abbrev pub ofDistance : Distance → Answer
+ofDistance (Slots n) = slots n
+ofDistance (DistanceRefused r) = refused (number r)
 
-abbrev pub saving : Saving → Answer
-saving (Size n) = saved n
-saving (SavingRefused r) = refused (number r)
+abbrev pub ofSaving : Saving → Answer
+ofSaving (Size n) = saved n
+ofSaving (SavingRefused r) = refused (number r)
 
-abbrev pub loading : Loading → Answer
-loading (Count n) = loaded n
-loading (LoadingRefused r) = refused (number r)
+abbrev pub ofLoading : Loading → Answer
+ofLoading (Count n) = loaded n
+ofLoading (LoadingRefused r) = refused (number r)
 
 -- ---- and for each result that has a schedule beside the answer
 abbrev pub ofAdmitted : Admitted → Outcome
-ofAdmitted r = record { answer = admission (r .answer); schedule = r .schedule }
+ofAdmitted r = record { answer = ofAdmission (r .answer); schedule = r .schedule }
 
 abbrev pub ofDropped : Dropped → Outcome
-ofDropped r = record { answer = dropping (r .answer); schedule = r .schedule }
+ofDropped r = record { answer = ofDropping (r .answer); schedule = r .schedule }
 
 abbrev pub ofReported : Reported → Outcome
-ofReported r = record { answer = reporting (r .answer); schedule = r .schedule }
+ofReported r = record { answer = ofReporting (r .answer); schedule = r .schedule }
 
 abbrev pub ofLoaded : Loaded → Outcome
-ofLoaded r = record { answer = loading (r .answer); schedule = r .schedule }
+ofLoaded r = record { answer = ofLoading (r .answer); schedule = r .schedule }

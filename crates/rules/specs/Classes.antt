@@ -1,8 +1,9 @@
 -- The classes of blocks, and when one is free. Which blocks are taken is a test of a block, whoever takes them.
 use Prim.Native.Nat.{ℕ, _+_, _-_, _*_, _%_, _^_}
-use mathlib.Core.Bool.{Bool, false, not, _||_, _&&_}
-use lib.Dec.{eqb}
+use mathlib.Core.Bool.{Bool, false, not, _||_, _&&_, cond}
+use lib.Dec.{eqb, leb, ltb}
 use Rattle.rules.specs.Below.{any, every}
+use Rattle.rules.specs.Time.{minusMod}
 
 -- The depth of the tree, and of the list: it has 2^9 blocks.
 abbrev pub depth : ℕ
@@ -42,3 +43,11 @@ withClass k r taken b = inClass k r b || taken b
 -- What is taken once a class is given back.
 abbrev pub withoutClass : ℕ → ℕ → (ℕ → Bool) → ℕ → Bool
 withoutClass k r taken b = not (inClass k r b) && taken b
+
+-- The run of a connection with the factor 2^k and the anchor A, from its block `from` to before its block `to`.
+abbrev pub inRun : ℕ → ℕ → ℕ → ℕ → ℕ → Bool
+inRun k A from to b = leb from (minusMod b A (2 ^ k)) && ltb (minusMod b A (2 ^ k)) to
+
+-- What is taken once every block of a run is taken (true), or given back (false).
+abbrev pub setRun : ℕ → ℕ → ℕ → ℕ → Bool → (ℕ → Bool) → ℕ → Bool
+setRun k A from to bit taken b = cond (inRun k A from to b) bit (taken b)

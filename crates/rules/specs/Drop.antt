@@ -1,21 +1,25 @@
 -- Drop: handle.
 use Prim.Native.Nat.{ℕ}
-use mathlib.Core.List.{[], _∷_}
+use mathlib.Core.List.{List, [], _∷_}
 use lib.ListN.{set}
 use Rattle.rules.specs.declared.Schedule.{Schedule}
 use Rattle.rules.specs.Ownership.{nobody}
 use Rattle.rules.specs.Good.{scheduleOf}
-use Rattle.rules.specs.Refusals.{check, decided}
-use Rattle.rules.specs.Answers.{Answer, Outcome, refusing, dropped}
+use Rattle.rules.specs.Refusals.{Check, check, decided}
+use Rattle.rules.specs.Answers.{Outcome, refusing, dropped}
 use Rattle.rules.specs.Handles.{aboveHandles, notLive}
 
--- "Checks 1, 3. Its blocks are free at once."
-unfoldable pub drop : Schedule → ℕ → Outcome
-unfolding scheduleOf decided
-drop s handle =
+-- "Checks 1, 3."
+abbrev pub dropChecks : Schedule → ℕ → List Check
+dropChecks s handle = check 1 (aboveHandles handle) ∷ check 3 (notLive s handle) ∷ []
+
+-- "Its blocks are free at once."
+unfoldable pub dropDone : Schedule → ℕ → Outcome
+unfolding scheduleOf
+dropDone s handle =
     let after = scheduleOf (set (s .connections) handle nobody) in
-    decided
-    (check 1 (aboveHandles handle)
-    ∷ check 3 (notLive s handle)
-    ∷ [])
-    (refusing s) (record { answer = dropped; schedule = after })
+    record { answer = dropped; schedule = after }
+
+unfoldable pub drop : Schedule → ℕ → Outcome
+unfolding dropDone decided
+drop s handle = decided (dropChecks s handle) (refusing s) (dropDone s handle)

@@ -3,7 +3,7 @@ use Prim.Native.Nat.{ℕ}
 use mathlib.Core.Path.{_≡_}
 use mathlib.Core.Bool.{true, false}
 use mathlib.Core.List.{List}
-use lib.ListN.{replicate}
+use lib.ListN.{length, replicate}
 use Rattle.rules.specs.declared.Connection.{Connection}
 use Rattle.rules.specs.declared.Schedule.{Schedule}
 use Rattle.rules.specs.Ownership.{handles, nobody, at, taken}
@@ -16,7 +16,9 @@ unfolding treeOf taken
 treeFor cs = treeOf (taken cs)
 
 -- "A call may assume only that the schedule given to it is sound and has the tree described below."
+-- Its array has 64 places, as its type says.
 pub record Good (s : Schedule) : Type 0 where
+  pub places : length (s .connections) ≡ handles
   pub isSound : sound (s .connections) ≡ true
   pub hasTree : s .tree .bytes ≡ treeFor (s .connections)
 

@@ -9,8 +9,8 @@ use Rattle.rules.specs.declared.Schedule.{Schedule}
 use Rattle.rules.specs.Ownership.{handles, nobody}
 use Rattle.rules.specs.Sound.{soundNumbers, apart}
 use Rattle.rules.specs.Good.{treeFor, scheduleOf}
-use Rattle.rules.specs.Refusals.{check, decided}
-use Rattle.rules.specs.Answers.{Answer, Outcome, refusing, loaded}
+use Rattle.rules.specs.Refusals.{Check, check, decided}
+use Rattle.rules.specs.Answers.{Outcome, refusing, loaded}
 use Rattle.rules.specs.Bytes.{littleNumber, same}
 use Rattle.rules.specs.Image.{Piece, joined}
 
@@ -102,18 +102,35 @@ treeIn (r ∷ rs) =
     let later = treeIn rs in
     cond (eqb (r .kind) 3) (r .payload ++ later) later
 
--- "Checks 9, 10, 11, 12, each over the whole image before the next. Accepted, the image's schedule replaces the old one; the
--- answer is n."
-unfoldable pub load : Schedule → List ℕ → Outcome
-unfolding piecesIn recordsWrong numbersUnsound restored connectionsIn apart treeIn treeFor same scheduleOf countIn decided
-load s bytes =
-    let rs = piecesIn (length bytes) bytes in
-    let cs = restored (connectionsIn rs) in
-    let after = scheduleOf cs in
-    decided
-    (check 9 (recordsWrong bytes rs)
+-- The records of the bytes, and their connections.
+unfoldable pub piecesOf : List ℕ → List Piece
+unfolding piecesIn
+piecesOf bytes = piecesIn (length bytes) bytes
+
+unfoldable pub connectionsOf : List Piece → List Connection
+unfolding restored connectionsIn
+connectionsOf rs = restored (connectionsIn rs)
+
+-- "Checks 9, 10, 11, 12, each over the whole image before the next."
+unfoldable pub loadChecks : List ℕ → List Check
+unfolding piecesOf connectionsOf recordsWrong numbersUnsound apart treeIn treeFor same
+loadChecks bytes =
+    let rs = piecesOf bytes in
+    let cs = connectionsOf rs in
+    check 9 (recordsWrong bytes rs)
     ∷ check 10 (numbersUnsound rs)
     ∷ check 11 (not (apart cs))
     ∷ check 12 (not (same (treeIn rs) (treeFor cs)))
-    ∷ [])
-    (refusing s) (record { answer = loaded (countIn rs); schedule = after })
+    ∷ []
+
+-- "Accepted, the image's schedule replaces the old one; the answer is n."
+unfoldable pub loadDone : List ℕ → Outcome
+unfolding piecesOf connectionsOf scheduleOf countIn
+loadDone bytes =
+    let rs = piecesOf bytes in
+    let after = scheduleOf (connectionsOf rs) in
+    record { answer = loaded (countIn rs); schedule = after }
+
+unfoldable pub load : Schedule → List ℕ → Outcome
+unfolding loadChecks loadDone decided
+load s bytes = decided (loadChecks bytes) (refusing s) (loadDone bytes)

@@ -3,6 +3,7 @@ use Prim.Native.Nat.{ℕ, suc, _+_, _-_, _/_, min, max}
 use mathlib.Core.Bool.{Bool, cond}
 use lib.Dec.{eqb, ltb}
 use lib.IntN.{ℤ, pos, negsuc, _+ℤ_, _-ℤ_, natAbs}
+use Rattle.rules.specs.declared.Meter.{Meter}
 use Rattle.rules.specs.Time.{blockMicros, guardMicros}
 use Rattle.rules.specs.Answers.{Answer, kept, grown, shrunk, tight}
 
@@ -23,6 +24,12 @@ need e = (e + guardMicros + (blockMicros - 1)) / blockMicros
 -- "The target is need, raised to the floor or lowered to the ceiling."
 abbrev pub target : ℕ → ℕ → ℕ → ℕ
 target needed floor ceiling = min (max needed floor) ceiling
+
+-- The meter moved by a sample: the new estimate, with the length that it aims at.
+unfoldable pub movedMeter : Meter → ℕ → ℕ → ℕ → Meter
+unfolding moved
+movedMeter m sample floor ceiling =
+    record { estimate = moved (m .estimate) sample; length = target (need (moved (m .estimate) sample)) floor ceiling }
 
 -- "Target equal to L: kept. Below L: shrunk to the target, the last blocks given back. Above L (it is then L + 1): grown,
 -- if the class of (A + L) mod F is free, otherwise tight with L unchanged."

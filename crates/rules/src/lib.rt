@@ -24,6 +24,12 @@ pub struct Schedule {
     pub tree: Tree,
 }
 
+/// The meter of one connection: its estimate in µs with its length in blocks.
+pub struct Meter {
+    pub estimate: u32,
+    pub length: u16,
+}
+
 // ---- the answers
 
 /// Why a call is refused: a case for each row of the refusal table.
@@ -58,6 +64,12 @@ pub enum Share {
 pub enum Place {
     At(u16),
     Nowhere,
+}
+
+/// Where an admission goes, k and the anchor, or why it is refused.
+pub enum Plan {
+    At(u8, u16),
+    Refused(Refusal),
 }
 
 pub enum Admission {

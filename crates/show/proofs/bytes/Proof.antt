@@ -1,8 +1,8 @@
--- `tree_values::say_bytes` is safe.
+-- `show::bytes` is safe.
 use Prim.Native.Nat.{_≤_, _-_}
 use borrow.Author.Needs.{needs}
-use Rattle.tree_values.proofs.say_bytes.Statement.{statement}
-use Rattle.tree_values.proofs.say_bytes.Tie as tie
+use Rattle.show.proofs.bytes.Statement.{statement}
+use Rattle.show.proofs.bytes.Tie as tie
 
 abbrev Inv-loop : tie.InvT-loop
 Inv-loop tree i₀ i = i ≤ 128
@@ -34,8 +34,8 @@ loop-again c = search needs
 returns : tie.Need-returns Inv-loop μ-loop
 returns c = search needs
 
-pub say-bytes-spec : {M : Type 1} → statement M
-say-bytes-spec =
+pub bytes-spec : {M : Type 1} → statement M
+bytes-spec =
     tie.close
     (tie.spec
     Inv-loop

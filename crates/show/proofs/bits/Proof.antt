@@ -1,10 +1,10 @@
--- `tree_values::bits` is safe: the count is at most the number of turns.
+-- `show::bits` is safe: the count is at most the number of turns.
 use Prim.Native.Nat.{_≤_, _-_}
 use mathlib.Core.Logic.{⊎-elim}
 use native.Mathlib.Omega.{arith}
 use borrow.Author.Needs.{needs}
-use Rattle.tree_values.proofs.bits.Statement.{statement}
-use Rattle.tree_values.proofs.bits.Tie as tie
+use Rattle.show.proofs.bits.Statement.{statement}
+use Rattle.show.proofs.bits.Tie as tie
 
 abbrev Inv-loop : tie.InvT-loop
 Inv-loop tree set₀ n₀ set n = (set ≤ n) × (n ≤ 1024)

@@ -1,0 +1,52 @@
+//! The rule that moves a meter, on numbers.
+ghost use mathlib.Core.Path.{_≡_};
+ghost use Prim.Native.Nat.{_≤_};
+ghost use Rattle.rules.specs.Meter.{moved as movedRule, need as needRule, target as targetRule, movedMeter};
+use rules::Meter;
+
+// e + floor((s - e) / 8), the division rounded toward minus infinity.
+fn moved(estimate: u32, sample: u32) -> u32
+    ensures { λ r. ⌜ r ≡ movedRule estimate sample ⌝ }
+{
+    if estimate <= sample {
+        estimate + (sample - estimate) / 8
+    } else {
+        estimate - ((estimate - sample - 1) / 8 + 1)
+    }
+}
+
+// (e + 2,500) / 7,500 rounded up.
+fn need(estimate: u32) -> u32
+    requires { ⌜ estimate ≤ 4000000 ⌝ }
+    ensures { λ r. ⌜ r ≡ needRule estimate ⌝ }
+{
+    (estimate + 2500 + 7499) / 7500
+}
+
+// Need, raised to the floor or lowered to the ceiling.
+fn target(needed: u32, floor: u16, ceiling: u16) -> u16
+    ensures { λ r. ⌜ r ≡ targetRule needed floor ceiling ⌝ }
+{
+    if ceiling as u32 <= needed {
+        return ceiling;
+    }
+    if ceiling <= floor {
+        return ceiling;
+    }
+    if needed <= floor as u32 {
+        return floor;
+    }
+    needed as u16
+}
+
+/// The meter moved by a sample: the new estimate, with the length that it aims at.
+pub fn move_meter(estimate: u32, length: u16, sample: u32, floor: u16, ceiling: u16) -> Meter
+    requires { ⌜ (estimate ≤ 4000000) × (sample ≤ 4000000) ⌝ }
+    ensures { λ r. ⌜ r ≡ movedMeter (record { estimate = estimate; length = length }) sample floor ceiling ⌝ }
+{
+    let e = moved(estimate, sample);
+    Meter {
+        estimate: e,
+        length: target(need(e), floor, ceiling),
+    }
+}

@@ -1,0 +1,2 @@
+-- What the search for a place promises.
+pub mod Promises

@@ -1,0 +1,42 @@
+-- What the search for a place promises.
+use Prim.Native.Nat.{ℕ, _+_, _^_, _<_}
+use mathlib.Core.Path.{_≡_}
+use mathlib.Core.Bool.{Bool, false}
+use mathlib.Core.List.{List}
+use lib.ListN.{length, getD}
+use Rattle.rules.specs.declared.Place.{Place}
+use Rattle.rules.specs.declared.Plan.{Plan}
+use Rattle.rules.specs.Classes.{classTaken}
+use Rattle.rules.specs.Mirror.{mirrored}
+use Rattle.rules.specs.TreeBytes.{bitAt}
+use Rattle.rules.specs.Steps.{ofPlace, ofPlan, placeStep, planStep}
+use Rattle.tree.specs.Promises.{ByTree}
+
+-- Room for each class of the deepest row, and for each of its anchors.
+pub record Long (taken : List Bool) (anchors : List ℕ) : Type 0 where
+  pub classes : length taken ≡ 512
+  pub places : length anchors ≡ 512
+
+-- The anchors of depth k in node order.
+abbrev pub Anchors : ℕ → List ℕ → Type 0
+Anchors k anchors = (p : ℕ) → p < 2 ^ k → getD anchors p 0 ≡ mirrored k p
+
+-- Whether each class of depth k is taken, in counting order.
+abbrev pub Row : ℕ → (ℕ → Bool) → List Bool → Type 0
+Row k taken row = (A : ℕ) → A < 2 ^ k → getD row A false ≡ classTaken taken k A
+
+pub record Reads (k : ℕ) (tree : List ℕ) (taken : List Bool) (anchors : List ℕ) : Type 0 where
+  pub long : Long taken anchors
+  pub order : Anchors k anchors
+  pub bits : (A : ℕ) → A < 2 ^ k → getD taken A false ≡ bitAt tree (2 ^ k + mirrored k A)
+
+-- The first open anchor, by the row of what is taken.
+abbrev pub Searches : ℕ → ℕ → List Bool → Place → Type 0
+Searches k floor row r = (taken : ℕ → Bool) → Row k taken row → ofPlace r ≡ placeStep taken k floor
+
+-- The first open anchor, by the tree of what is taken.
+abbrev pub Places : ℕ → ℕ → List ℕ → Place → Type 0
+Places k floor tree r = ByTree tree (ofPlace r) (λ taken. placeStep taken k floor)
+
+abbrev pub Plans : Bool → ℕ → ℕ → ℕ → List ℕ → Plan → Type 0
+Plans live slots floor ceiling tree r = ByTree tree (ofPlan r) (λ taken. planStep live taken slots floor ceiling)

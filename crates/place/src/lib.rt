@@ -1,0 +1,108 @@
+//! Where an admission goes: checks 2, 4, 5, 6 and the search for an anchor.
+ghost use mathlib.Core.Path.{_≡_};
+ghost use Prim.Native.Nat.{_≤_, _^_};
+ghost use Rattle.rules.specs.Classes.{depth};
+ghost use Rattle.rules.specs.Steps.{ofInterval, ofShare, intervalStep, shareStep};
+ghost use Rattle.place.specs.Promises.{Anchors, Reads, Searches, Places, Plans, Long};
+use rules::Interval;
+use rules::Place;
+use rules::Plan;
+use rules::Refusal;
+use rules::Share;
+use run::class_at;
+use run::factor;
+
+// The largest k with 6 × 2^k not above the interval.
+fn k_of(slots: u32) -> Interval
+    ensures { λ r. ⌜ ofInterval r ≡ intervalStep slots ⌝ }
+{
+    match slots {
+        6..=11 => Interval::Gives(0),
+        12..=23 => Interval::Gives(1),
+        24..=47 => Interval::Gives(2),
+        48..=95 => Interval::Gives(3),
+        96..=191 => Interval::Gives(4),
+        192..=383 => Interval::Gives(5),
+        384..=767 => Interval::Gives(6),
+        768..=1535 => Interval::Gives(7),
+        1536..=3071 => Interval::Gives(8),
+        3072..=3200 => Interval::Gives(9),
+        _ => Interval::Outside,
+    }
+}
+
+fn share_of(floor: u32, ceiling: u32, f: u32) -> Share
+    ensures { λ r. ⌜ ofShare r ≡ shareStep floor ceiling f ⌝ }
+{
+    if floor == 0 {
+        return Share::Wrong;
+    }
+    if ceiling < floor {
+        return Share::Wrong;
+    }
+    if f < ceiling {
+        return Share::Wrong;
+    }
+    Share::Fits
+}
+
+// The classes of a depth in counting order, taken or not, and its anchors in node order: one mirror a node.
+fn read_depth(tree: &[u8; 128], k: u32, taken: &mut [bool; 512], anchors: &mut [u16; 512])
+    requires { ⌜ (k ≤ depth) × Long (now taken) (now anchors) ⌝ }
+    ensures { λ _. ⌜ Reads k (now (tree .entry)) (now (taken .exit)) (now (anchors .exit)) ⌝ }
+{
+    let f = factor(k);
+    for p in 0..f {
+        let a = tree::mirror(k, p);
+        anchors[p as usize] = a as u16;
+        taken[a as usize] = tree::is_set(tree, (f + p) as usize);
+    }
+}
+
+// The first anchor in node order whose whole run is free.
+fn search(taken: &[bool; 512], anchors: &[u16; 512], k: u32, floor: u32) -> Place
+    requires { ⌜ (k ≤ depth) × (floor ≤ 2 ^ k) × Anchors k (now anchors) ⌝ }
+    ensures { λ r. ⌜ Searches k floor (now (taken .entry)) r ⌝ }
+{
+    let f = factor(k);
+    'nodes: for p in 0..f {
+        let a = anchors[p as usize];
+        for j in 0..floor {
+            if taken[class_at(k, a as u32, j) as usize] {
+                continue 'nodes;
+            }
+        }
+        return Place::At(a);
+    }
+    Place::Nowhere
+}
+
+/// The first open anchor, or none.
+pub fn place(tree: &[u8; 128], k: u32, floor: u32) -> Place
+    requires { ⌜ (k ≤ depth) × (floor ≤ 2 ^ k) ⌝ }
+    ensures { λ r. ⌜ Places k floor (now (tree .entry)) r ⌝ }
+{
+    let mut taken = [false; 512];
+    let mut anchors = [0u16; 512];
+    read_depth(tree, k, &mut taken, &mut anchors);
+    search(&taken, &anchors, k, floor)
+}
+
+/// Where an admission goes, or the number of the first check from 2 on that refuses.
+pub fn plan(tree: &[u8; 128], live: bool, slots: u32, floor: u32, ceiling: u32) -> Plan
+    ensures { λ r. ⌜ Plans live slots floor ceiling (now (tree .entry)) r ⌝ }
+{
+    if live {
+        return Plan::Refused(Refusal::HandleLive);
+    }
+    let Interval::Gives(k) = k_of(slots) else {
+        return Plan::Refused(Refusal::IntervalOutside);
+    };
+    let Share::Fits = share_of(floor, ceiling, factor(k as u32)) else {
+        return Plan::Refused(Refusal::ShareWrong);
+    };
+    let Place::At(anchor) = place(tree, k as u32, floor) else {
+        return Plan::Refused(Refusal::NoOpenAnchor);
+    };
+    Plan::At(k, anchor)
+}

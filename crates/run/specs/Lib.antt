@@ -1,0 +1,2 @@
+-- What the functions on runs promise.
+pub mod Promises

@@ -1,0 +1,69 @@
+-- `schedule::asking::owner` meets its contract. The invariant: no handle before h has the block.
+use borrow.Author.Needs.{needs}
+use mathlib.Core.Path.{_≡_, sym, ap, _∙_}
+use mathlib.Core.Bool.{false}
+use mathlib.Core.Logic.{by-cases}
+use Prim.Native.Nat.{ℕ, _-_, _≤_, _<_}
+use native.Mathlib.Decide.{ℕ-discrete}
+use native.Mathlib.Omega.{arith}
+use Rattle.rules.specs.Ownership.{owns}
+use Rattle.rules.specs.Handles.{connection}
+use Rattle.rules.proofs.ScheduleLaws.{good-sound}
+use Rattle.rules.proofs.QuestionLaws.{owner-found, owner-none}
+use Rattle.schedule.proofs.asking.owner.Statement.{statement}
+use Rattle.schedule.proofs.asking.owner.Tie as tie
+
+abbrev Inv-loop : tie.InvT-loop
+Inv-loop block s h₀ h = (h ≤ 64) × ((j : ℕ) → j < h → owns (connection s j) block ≡ false)
+
+abbrev μ-loop : tie.MeasureT-loop
+μ-loop block s h₀ h = 64 - h
+
+loop-holds : tie.Need-loop-holds Inv-loop μ-loop
+loop-holds c = (search needs, λ j l. absurd (omega arith))
+
+mul-owns : tie.Need-mul-owns Inv-loop μ-loop
+mul-owns c = search needs
+
+element-copy-out-owns : tie.Need-element-copy-out-owns Inv-loop μ-loop
+element-copy-out-owns c = search needs
+
+owns-requires : tie.Need-owns-requires Inv-loop μ-loop
+owns-requires c κs = good-sound (c .before .before .before .args .t1) (c .before .before .before .pre) .numbers (c .before .before .loop .h)
+
+cast-t11 : tie.Need-cast-t11 Inv-loop μ-loop
+cast-t11 c = search needs
+
+returns : tie.Need-returns Inv-loop μ-loop
+returns c =
+    let l = c .before .before .before .before .loop in
+    let a = c .before .before .before .before .before .args in
+    sym (owner-found (a .t1) (a .block) (l .h) (omega arith) (sym (c .before .owns .ensures) ∙ c .if1 .taken) (l .inv .1))
+
+add-h : tie.Need-add-h Inv-loop μ-loop
+add-h c = search needs
+
+loop-less : tie.Need-loop-less Inv-loop μ-loop
+loop-less c = search needs
+
+loop-again : tie.Need-loop-again Inv-loop μ-loop
+loop-again c =
+    let l = c .before .before .before .before .loop in
+    let a = c .before .before .before .before .before .args in (
+      omega arith,
+      λ j m.
+          by-cases (ℕ-discrete j (l .h))
+          (λ q. ap (λ (x : ℕ). owns (connection (a .t1) x) (a .block)) q ∙ sym (c .before .owns .ensures) ∙ c .if1 .left)
+          (λ q. l .inv .1 j (omega arith)),
+    )
+
+returns-2 : tie.Need-returns-2 Inv-loop μ-loop
+returns-2 c =
+    let l = c .before .loop in
+    let a = c .before .before .args in
+    sym (owner-none (a .t1) (a .block) (λ j m. l .inv .1 j (omega arith)))
+
+pub owner-spec : {M : Type 1} → statement M
+owner-spec =
+    tie.close
+    (tie.spec Inv-loop μ-loop loop-holds mul-owns element-copy-out-owns owns-requires cast-t11 returns add-h loop-less loop-again returns-2)

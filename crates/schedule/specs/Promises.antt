@@ -1,0 +1,60 @@
+-- What the calls on a schedule promise.
+use Prim.Native.Nat.{ℕ, _+_, _*_, _%_, _^_, _<_, _≤_}
+use mathlib.Core.Path.{_≡_}
+use mathlib.Core.Bool.{Bool, true, false}
+use mathlib.Core.List.{List}
+use lib.ListN.{length, getD}
+use Rattle.rules.specs.declared.Schedule.{Schedule}
+use Rattle.rules.specs.declared.Connection.{Connection}
+use Rattle.rules.specs.declared.Admitted.{Admitted}
+use Rattle.rules.specs.declared.Dropped.{Dropped}
+use Rattle.rules.specs.declared.Reported.{Reported}
+use Rattle.rules.specs.declared.Reporting.{Reporting}
+use Rattle.rules.specs.declared.Reporting.the-variants.{Kept, Grown, Shrunk, Tight, Refused as ReportingRefused}
+use Rattle.rules.specs.declared.Place.{Place}
+use Rattle.rules.specs.declared.Plan.{Plan}
+use Rattle.rules.specs.Classes.{setRun, classTaken}
+use Rattle.rules.specs.Mirror.{mirrored}
+use Rattle.rules.specs.TreeBytes.{treeOf, bitAt}
+use Rattle.rules.specs.Answers.{ofAdmitted, ofDropped, ofReporting, ofReported}
+use Rattle.rules.specs.Admit.{admit}
+use Rattle.rules.specs.Drop.{drop}
+use Rattle.rules.specs.Meter.{change}
+use Rattle.rules.specs.Report.{roomToGrow, report}
+use Rattle.rules.specs.Time.{minusMod}
+use Rattle.rules.specs.Steps.{ofPlace, ofPlan, placeStep, planStep}
+use Rattle.rules.specs.Good.{Good, FreeSlotsZero, fresh}
+use Rattle.tree.specs.Promises.{ByTree}
+
+-- What is taken once a report has the answer: the last blocks given back, one more taken, or as before.
+abbrev pub takenAfter : Connection → Reporting → (ℕ → Bool) → ℕ → Bool
+takenAfter c (Kept L) f = f
+takenAfter c (Grown L) f = setRun (c .k) (c .anchor) (c .length) L true f
+takenAfter c (Shrunk L) f = setRun (c .k) (c .anchor) L (c .length) false f
+takenAfter c (Tight L) f = f
+takenAfter c (ReportingRefused r) f = f
+
+-- The answer for the length aimed at, and the tree that follows it.
+pub record Settles (c : Connection) (aim : ℕ) (before after : List ℕ) (r : Reporting) : Type 0 where
+  pub answer : ByTree before (ofReporting r) (λ taken. change (c .length) aim (roomToGrow taken c))
+  pub tree : ByTree before after (λ taken. treeOf (takenAfter c r taken))
+
+-- ---- the calls
+-- A fresh schedule.
+pub record Starts (r : Schedule) : Type 0 where
+  pub is : r ≡ fresh
+  pub good : Good r
+
+-- Each other call: the whole result, by the sheet's answer and the schedule afterwards, is what the rule gives for the inputs;
+-- and the schedule is good again.
+pub record Admits (s : Schedule) (handle interval floor ceiling : ℕ) (r : Admitted) : Type 0 where
+  pub is : ofAdmitted r ≡ admit s handle interval floor ceiling
+  pub good : Good (r .schedule)
+
+pub record Drops (s : Schedule) (handle : ℕ) (r : Dropped) : Type 0 where
+  pub is : ofDropped r ≡ drop s handle
+  pub good : Good (r .schedule)
+
+pub record Reports (s : Schedule) (handle sample : ℕ) (r : Reported) : Type 0 where
+  pub is : ofReported r ≡ report s handle sample
+  pub good : Good (r .schedule)

@@ -1,0 +1,55 @@
+//! The questions: whose block it is, and how far an anchor is. They change nothing.
+ghost use mathlib.Core.Path.{_≡_};
+ghost use mathlib.Core.Bool.{true};
+ghost use Rattle.rules.specs.Good.{Good};
+ghost use Rattle.rules.specs.Answers.{ofOwnership, ofDistance};
+ghost use Rattle.rules.specs.Ownership.{owns as ownsBlock};
+ghost use Rattle.rules.specs.Owner.{ownerOf};
+ghost use Rattle.rules.specs.Anchor.{anchor as anchorRule};
+ghost use Rattle.rules.proofs.SoundLaws.{Numbers};
+use rules::Connection;
+use rules::Distance;
+use rules::Ownership;
+use rules::Refusal;
+use rules::Schedule;
+use run::minus_mod;
+
+// Whether the block belongs to the connection, and the connection is live.
+fn owns(c: Connection, block: u32) -> bool
+    requires { ⌜ (c .live ≡ true → Numbers c) ⌝ }
+    ensures { λ r. ⌜ r ≡ ownsBlock c block ⌝ }
+{
+    if c.live {
+        minus_mod(c.k as u32, block, c.anchor as u32) < c.length as u32
+    } else {
+        false
+    }
+}
+
+/// The handle of the connection that the block belongs to, or idle.
+pub fn owner(s: Schedule, block: u32) -> Ownership
+    requires { ⌜ Good s ⌝ }
+    ensures { λ r. ⌜ ofOwnership r ≡ ownerOf s block ⌝ }
+{
+    for h in 0..64 {
+        if owns(s.connections[h], block) {
+            return Ownership::Handle(h as u8);
+        }
+    }
+    Ownership::Idle
+}
+
+/// Slots from the start of the block to the connection's next anchor.
+pub fn anchor(s: Schedule, handle: u32, block: u32) -> Distance
+    requires { ⌜ Good s ⌝ }
+    ensures { λ r. ⌜ ofDistance r ≡ anchorRule s handle block ⌝ }
+{
+    if 63 < handle {
+        return Distance::Refused(Refusal::HandleAbove63);
+    }
+    let c = s.connections[handle as usize];
+    if c.live {
+        return Distance::Slots(6 * minus_mod(c.k as u32, c.anchor as u32, block));
+    }
+    Distance::Refused(Refusal::HandleNotLive)
+}

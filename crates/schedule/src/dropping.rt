@@ -1,0 +1,43 @@
+//! Drop: checks 1, 3.
+ghost use Rattle.rules.specs.Good.{Good};
+ghost use Rattle.schedule.specs.Promises.{Drops};
+use crate::start::nobody;
+use rules::Dropped;
+use rules::Dropping;
+use rules::Refusal;
+use rules::Schedule;
+use run::set_run;
+
+/// Drops a connection: its blocks are free at once.
+pub fn drop(mut s: Schedule, handle: u32) -> Dropped
+    requires { ⌜ Good s ⌝ }
+    ensures { λ r. ⌜ Drops s handle r ⌝ }
+{
+    if 63 < handle {
+        return Dropped {
+            answer: Dropping::Refused(Refusal::HandleAbove63),
+            schedule: s,
+        };
+    }
+    let h = handle as usize;
+    let c = s.connections[h];
+    if c.live {
+        set_run(
+            &mut s.tree.bytes,
+            c.k as u32,
+            c.anchor as u32,
+            0,
+            c.length as u32,
+            false,
+        );
+        s.connections[h] = nobody();
+        return Dropped {
+            answer: Dropping::Done,
+            schedule: s,
+        };
+    }
+    Dropped {
+        answer: Dropping::Refused(Refusal::HandleNotLive),
+        schedule: s,
+    }
+}

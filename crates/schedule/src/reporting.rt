@@ -1,0 +1,99 @@
+//! Report: checks 1, 3, 7.
+ghost use mathlib.Core.Path.{_≡_};
+ghost use Prim.Native.Nat.{_≤_};
+ghost use Rattle.rules.specs.Good.{Good};
+ghost use Rattle.rules.specs.Answers.{ofReporting, lengthIn};
+ghost use Rattle.rules.specs.Report.{metered};
+ghost use Rattle.rules.proofs.SoundLaws.{Numbers};
+ghost use Rattle.tree.specs.Promises.{IsTree};
+ghost use Rattle.schedule.specs.Promises.{Settles, Reports};
+use meter::move_meter;
+use rules::Connection;
+use rules::Refusal;
+use rules::Reported;
+use rules::Reporting;
+use rules::Schedule;
+use run::class_at;
+use run::set_run;
+
+// Kept, shrunk, grown or tight for the length aimed at; the tree follows.
+fn settle(tree: &mut [u8; 128], c: Connection, aim: u16) -> Reporting
+    requires { ⌜ Numbers c × (aim ≤ c .ceiling) × IsTree (now tree) ⌝ }
+    ensures { λ r. ⌜ Settles c aim (now (tree .entry)) (now (tree .exit)) r ⌝ }
+{
+    let k = c.k as u32;
+    let anchor = c.anchor as u32;
+    let length = c.length as u32;
+    if aim as u32 == length {
+        return Reporting::Kept(aim);
+    }
+    if (aim as u32) < length {
+        set_run(tree, k, anchor, aim as u32, length, false);
+        return Reporting::Shrunk(aim);
+    }
+    if tree::is_free(tree, k, class_at(k, anchor, length)) {
+        set_run(tree, k, anchor, length, length + 1, true);
+        return Reporting::Grown(c.length + 1);
+    }
+    Reporting::Tight(c.length)
+}
+
+fn length_of(answer: Reporting) -> u16
+    ensures { λ r. ⌜ r ≡ lengthIn (ofReporting answer) ⌝ }
+{
+    match answer {
+        Reporting::Kept(length) => length,
+        Reporting::Grown(length) => length,
+        Reporting::Shrunk(length) => length,
+        Reporting::Tight(length) => length,
+        Reporting::Refused(_) => 0,
+    }
+}
+
+fn with_meter(c: Connection, length: u16, estimate: u32) -> Connection
+    ensures { λ r. ⌜ r ≡ metered c length estimate ⌝ }
+{
+    Connection {
+        live: c.live,
+        k: c.k,
+        anchor: c.anchor,
+        length,
+        floor: c.floor,
+        ceiling: c.ceiling,
+        estimate,
+    }
+}
+
+/// Reports the µs that a connection used in its last run.
+pub fn report(mut s: Schedule, handle: u32, sample: u32) -> Reported
+    requires { ⌜ Good s ⌝ }
+    ensures { λ r. ⌜ Reports s handle sample r ⌝ }
+{
+    if 63 < handle {
+        return Reported {
+            answer: Reporting::Refused(Refusal::HandleAbove63),
+            schedule: s,
+        };
+    }
+    let h = handle as usize;
+    let c = s.connections[h];
+    if !c.live {
+        return Reported {
+            answer: Reporting::Refused(Refusal::HandleNotLive),
+            schedule: s,
+        };
+    }
+    if c.length as u32 * 7500 < sample {
+        return Reported {
+            answer: Reporting::Refused(Refusal::SampleAboveRun),
+            schedule: s,
+        };
+    }
+    let m = move_meter(c.estimate, c.length, sample, c.floor, c.ceiling);
+    let answer = settle(&mut s.tree.bytes, c, m.length);
+    s.connections[h] = with_meter(c, length_of(answer), m.estimate);
+    Reported {
+        answer,
+        schedule: s,
+    }
+}

@@ -1,0 +1,41 @@
+//! What the test programs print with.
+
+use libc::STDOUT_FILENO;
+
+/// Words as they are.
+pub fn word(w: &[u8]) {
+    io::write_all(STDOUT_FILENO, w);
+}
+
+/// A space and a number.
+pub fn number(n: u64) {
+    word(b" ");
+    io::print_decimal(STDOUT_FILENO, n);
+}
+
+/// The end of a line.
+pub fn end() {
+    word(b"\n");
+}
+
+/// How many bits of a tree are set.
+pub fn bits(tree: &[u8; 128]) -> u64 {
+    let mut set: u64 = 0;
+    for n in 0..1024 {
+        if tree::is_set(tree, n) {
+            set += 1;
+        }
+    }
+    set
+}
+
+fn wide(byte: u8) -> u64 {
+    byte as u64
+}
+
+/// Every byte of a tree, in hexadecimal.
+pub fn bytes(tree: &[u8; 128]) {
+    for i in 0..128 {
+        io::print_hex(STDOUT_FILENO, wide(tree[i]), 2);
+    }
+}
