@@ -2,7 +2,7 @@
 use mathlib.Core.Path.{_≡_, refl, sym, ap, ap₂, _∙_, subst}
 use mathlib.Core.Bool.{Bool, true, false, _||_, _&&_, not, cond, or-true, false≢true}
 use mathlib.Core.Logic.{_≢_, by-cases, _↔_}
-use mathlib.Core.List.{List, _∷_}
+use mathlib.Core.List.{List, [], _∷_, _++_}
 use mathlib.Core.Option.{Option, none, some}
 use Prim.Native.Nat.{ℕ, zero, suc, _+_, _-_, _*_, _<_, _≤_}
 use native.Mathlib.Decide.{ℕ-discrete, decLe}
@@ -74,6 +74,12 @@ pub tabulate-ext {ℓ} : {A : Type ℓ} (n : ℕ) (f g : ℕ → A) → ((i : �
 unfolding tabulate
 tabulate-ext zero f g h = refl
 tabulate-ext (suc n) f g h = ap₂ _∷_ (h 0 (omega arith)) (tabulate-ext n (λ i. f (suc i)) (λ i. g (suc i)) (λ i l. h (suc i) (omega arith)))
+
+-- The last entry of one more.
+pub tabulate-last {ℓ} : {A : Type ℓ} (n : ℕ) (f : ℕ → A) → tabulate (suc n) f ≡ tabulate n f ++ (f n ∷ [])
+unfolding tabulate
+tabulate-last zero f = refl
+tabulate-last {A = A} (suc n) f = ap {B = List A} (λ l. f 0 ∷ l) (tabulate-last n (λ i. f (suc i)))
 
 -- ---- least
 none≢some : {p : ℕ} → _≡_ {A = Option ℕ} none (some p) → ⊥

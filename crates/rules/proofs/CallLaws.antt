@@ -1,6 +1,7 @@
 -- The laws of every call that answers with a schedule.
 use mathlib.Core.Path.{_≡_, refl}
 use mathlib.Core.Bool.{Bool}
+use mathlib.Core.List.{List}
 use Prim.Native.Nat.{ℕ}
 use native.Mathlib.Omega.{arith}
 use Rattle.rules.specs.declared.Schedule.{Schedule}
@@ -8,11 +9,15 @@ use Rattle.rules.specs.declared.Connection.{Connection}
 use Rattle.rules.specs.Ownership.{taken}
 use Rattle.rules.specs.Handles.{connection}
 use Rattle.rules.specs.Good.{Good, FreeSlotsZero}
-use Rattle.rules.specs.Answers.{Answer, Outcome, refused}
+use Rattle.rules.specs.Answers.{Outcome, refused}
 use Rattle.rules.specs.Admit.{admitDone, admit}
 use Rattle.rules.specs.Drop.{dropDone, drop}
 use Rattle.rules.specs.Meter.{moved, need, target}
 use Rattle.rules.specs.Report.{roomToGrow, reportAnswer, reportDone, report}
+use Rattle.rules.specs.Load.{loadChecks, loadDone, load}
+use Rattle.rules.proofs.RefusalLaws.{refusal-keeps}
+use Rattle.rules.proofs.BytesLaws.{AllBytes}
+use Rattle.rules.proofs.ImageLaws.{load-good, load-zero}
 use Rattle.rules.proofs.MeterLaws.{change-cases}
 use Rattle.rules.proofs.AdmitLaws.{admit-cases, admit-good, admit-zero}
 use Rattle.rules.proofs.DropLaws.{drop-cases, drop-good, drop-zero}
@@ -23,6 +28,7 @@ pub data Leaves (s : Schedule) : Outcome → Type 0 where
   admits : (h i f c : ℕ) → Leaves s (admit s h i f c)
   drops : (h : ℕ) → Leaves s (drop s h)
   reports : (h sample : ℕ) → Leaves s (report s h sample)
+  loads : (bytes : List ℕ) → AllBytes bytes → Leaves s (load s bytes)
 
 -- A rule that keeps the schedule where its answer is a refusal.
 abbrev Keeps : Schedule → Outcome → Type 0
@@ -40,21 +46,25 @@ answered f c sample n =
 
 -- "A refusal returns its number only; the schedule .. as .. before the call."
 pub refusal-keeps-schedule : (s : Schedule) {o : Outcome} → Leaves s o → (n : ℕ) → o .answer ≡ refused n → o .schedule ≡ s
-unfolding admitDone dropDone reportDone
+unfolding admitDone dropDone reportDone load loadDone
 refusal-keeps-schedule s (admits h i f c) =
     admit-cases s h i f c (Keeps s) (λ m n e. refl) (λ a n e. let z : _≡_ {A = ℕ} 0 1 = cc in absurd (omega arith))
 refusal-keeps-schedule s (drops h) =
     drop-cases s h (Keeps s) (λ m n e. refl) (λ p q n e. let z : _≡_ {A = ℕ} 0 1 = cc in absurd (omega arith))
 refusal-keeps-schedule s (reports h sample) = report-cases s h sample (Keeps s) (λ m n e. refl) (λ r n e. absurd (answered (taken (s .connections)) (connection s h) sample n e))
+refusal-keeps-schedule s (loads bytes b) =
+    refusal-keeps (loadChecks bytes) s (loadDone bytes) (λ n e. let z : _≡_ {A = ℕ} 0 1 = cc in omega arith)
 
 -- "what each call leaves [is] shown to be so": good.
 pub call-good : (s : Schedule) → Good s → {o : Outcome} → Leaves s o → Good (o .schedule)
 call-good s good (admits h i f c) = admit-good s good h i f c
 call-good s good (drops h) = drop-good s good h
 call-good s good (reports h sample) = report-good s good h sample
+call-good s good (loads bytes b) = load-good s good bytes b
 
 -- Free slots stay zeros.
 pub call-zero : (s : Schedule) → Good s → FreeSlotsZero s → {o : Outcome} → Leaves s o → FreeSlotsZero (o .schedule)
 call-zero s good z (admits h i f c) = admit-zero s good h i f c z
 call-zero s good z (drops h) = drop-zero s good h z
 call-zero s good z (reports h sample) = report-zero s good h sample z
+call-zero s good z (loads bytes b) = load-zero s z bytes

@@ -20,5 +20,13 @@ pub mod DropLaws
 pub mod LiveLaws
 pub mod CallLaws
 pub mod AnswerLaws
+pub mod BytesLaws
+pub mod PieceLaws
+pub mod ImageLaws
+pub mod SaveLaws
+pub mod FrameLaws
+pub mod LoadLaws
+pub mod RoundTrip
+pub mod RestoreLaws
 pub mod NotEmpty
 pub mod TableP

@@ -1,6 +1,7 @@
 -- The image of a schedule: the bytes that are written.
 use Prim.Native.Nat.{ℕ, suc, _+_}
-use mathlib.Core.Bool.{Bool, true, false, cond}
+use mathlib.Core.Path.{_≡_}
+use mathlib.Core.Bool.{cond}
 use mathlib.Core.List.{List, [], _∷_, _++_}
 use lib.ListN.{length}
 use Rattle.rules.specs.declared.Connection.{Connection}
@@ -60,3 +61,7 @@ pieces cs =
 unfoldable pub image : List Connection → List ℕ
 unfolding pieces joined
 image cs = joined (pieces cs)
+
+-- These bytes are an image of these connections. A later form of the image is one more case here.
+abbrev pub IsImage : List ℕ → List Connection → Type 0
+IsImage bytes cs = bytes ≡ image cs

@@ -23,3 +23,4 @@ pub mod Bytes
 pub mod Image
 pub mod Save
 pub mod Load
+pub mod LoadSteps

@@ -72,6 +72,12 @@ pub enum Plan {
     Refused(Refusal),
 }
 
+/// How many connections an image counts; or its records are wrong.
+pub enum Frame {
+    Counts(u8),
+    Wrong,
+}
+
 pub enum Admission {
     Placed {
         factor: u16,
@@ -130,6 +136,13 @@ pub struct Dropped {
 pub struct Reported {
     pub answer: Reporting,
     pub schedule: Schedule,
+}
+
+/// The schedule of an image's connections, if no block belongs to two of them, and where the record after them begins.
+pub struct Restored {
+    pub apart: bool,
+    pub schedule: Schedule,
+    pub end: usize,
 }
 
 pub struct Loaded {

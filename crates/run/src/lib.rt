@@ -2,8 +2,25 @@
 ghost use mathlib.Core.Path.{_≡_};
 ghost use Prim.Native.Nat.{_+_, _<_, _≤_, _%_, _^_};
 ghost use Rattle.rules.specs.Classes.{depth};
+ghost use Rattle.rules.specs.Ownership.{nobody as noConnection};
 ghost use Rattle.tree.specs.Promises.{IsTree};
 ghost use Rattle.run.specs.Promises.{Factor, ClassAt, MinusMod, SetsRun};
+use rules::Connection;
+
+/// A free slot: no run, all zeros.
+pub fn nobody() -> Connection
+    ensures { λ r. ⌜ r ≡ noConnection ⌝ }
+{
+    Connection {
+        live: false,
+        k: 0,
+        anchor: 0,
+        length: 0,
+        floor: 0,
+        ceiling: 0,
+        estimate: 0,
+    }
+}
 
 /// F = 2^k.
 pub fn factor(k: u32) -> u32

@@ -1,11 +1,11 @@
 //! Drop: checks 1, 3.
 ghost use Rattle.rules.specs.Good.{Good};
 ghost use Rattle.schedule.specs.Promises.{Drops};
-use crate::start::nobody;
 use rules::Dropped;
 use rules::Dropping;
 use rules::Refusal;
 use rules::Schedule;
+use run::nobody;
 use run::set_run;
 
 /// Drops a connection: its blocks are free at once.

@@ -1,25 +1,8 @@
-//! Fresh schedules and free slots.
-ghost use mathlib.Core.Path.{_≡_};
-ghost use Rattle.rules.specs.Ownership.{nobody as noConnection};
+//! Fresh schedules.
 ghost use Rattle.schedule.specs.Promises.{Starts};
-use rules::Connection;
 use rules::Schedule;
 use rules::Tree;
-
-/// A free slot: all zeros.
-pub fn nobody() -> Connection
-    ensures { λ r. ⌜ r ≡ noConnection ⌝ }
-{
-    Connection {
-        live: false,
-        k: 0,
-        anchor: 0,
-        length: 0,
-        floor: 0,
-        ceiling: 0,
-        estimate: 0,
-    }
-}
+use run::nobody;
 
 /// A fresh schedule.
 pub fn fresh() -> Schedule

@@ -4,34 +4,13 @@ use rules::Admission;
 use rules::Distance;
 use rules::Dropping;
 use rules::Ownership;
-use rules::Refusal;
 use rules::Reporting;
 use rules::Schedule;
 use show::bits;
 use show::end;
 use show::number;
+use show::refused;
 use show::word;
-
-fn refused(r: Refusal) {
-    word(b"no");
-    number(
-        match r {
-            Refusal::HandleAbove63 => 1,
-            Refusal::HandleLive => 2,
-            Refusal::HandleNotLive => 3,
-            Refusal::IntervalOutside => 4,
-            Refusal::ShareWrong => 5,
-            Refusal::NoOpenAnchor => 6,
-            Refusal::SampleAboveRun => 7,
-            Refusal::BufferShort => 8,
-            Refusal::RecordsWrong => 9,
-            Refusal::NumbersUnsound => 10,
-            Refusal::BlockOwnedTwice => 11,
-            Refusal::TreeDiffers => 12,
-        },
-    );
-    end();
-}
 
 fn admit(s: Schedule, handle: u32, interval: u32, floor: u32, ceiling: u32) -> Schedule
     requires { ⌜ Good s ⌝ }

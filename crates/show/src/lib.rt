@@ -1,6 +1,7 @@
 //! What the test programs print with.
 
 use libc::STDOUT_FILENO;
+use rules::Refusal;
 
 /// Words as they are.
 pub fn word(w: &[u8]) {
@@ -16,6 +17,28 @@ pub fn number(n: u64) {
 /// The end of a line.
 pub fn end() {
     word(b"\n");
+}
+
+/// The line of a refusal.
+pub fn refused(r: Refusal) {
+    word(b"no");
+    number(
+        match r {
+            Refusal::HandleAbove63 => 1,
+            Refusal::HandleLive => 2,
+            Refusal::HandleNotLive => 3,
+            Refusal::IntervalOutside => 4,
+            Refusal::ShareWrong => 5,
+            Refusal::NoOpenAnchor => 6,
+            Refusal::SampleAboveRun => 7,
+            Refusal::BufferShort => 8,
+            Refusal::RecordsWrong => 9,
+            Refusal::NumbersUnsound => 10,
+            Refusal::BlockOwnedTwice => 11,
+            Refusal::TreeDiffers => 12,
+        },
+    );
+    end();
 }
 
 /// How many bits of a tree are set.

@@ -1,0 +1,2 @@
+-- Stores one after the other, and a number byte by byte.
+pub mod Stores

@@ -1,0 +1,2 @@
+-- What the reading of an image's frame promises.
+pub mod Promises

@@ -1,0 +1,28 @@
+-- The laws of the calls: what follows from a promise, whatever the code.
+use mathlib.Core.Path.{_≡_, sym, ap, _∙_}
+use mathlib.Core.List.{List}
+use Prim.Native.Nat.{ℕ}
+use Rattle.rules.specs.declared.Schedule.{Schedule}
+use Rattle.rules.specs.declared.Saving.{Saving}
+use Rattle.rules.specs.declared.Loaded.{Loaded}
+use Rattle.rules.specs.Answers.{Outcome, refused, ofLoaded}
+use Rattle.rules.specs.Save.{Written}
+use Rattle.rules.proofs.BytesLaws.{AllBytes}
+use Rattle.rules.proofs.AnswerLaws.{saving-injective, loaded-injective}
+use Rattle.rules.proofs.CallLaws.{Leaves, refusal-keeps-schedule}
+use Rattle.image.specs.Promises.{Saves, Loads}
+
+-- Two outcomes that meet a call's statement are equal, the buffer too.
+pub save-unique : (s : Schedule) (buffer x y : List ℕ) (a b : Saving) → Saves s buffer x a → Saves s buffer y b → (a ≡ b) × (x ≡ y)
+save-unique s buffer x y a b p q =
+    let e = p ∙ sym q in
+    (saving-injective a b (ap (λ (w : Written). w .answer) e), ap (λ (w : Written). w .buffer) e)
+
+pub load-unique : (s : Schedule) (bytes : List ℕ) (a b : Loaded) → Loads s bytes a → Loads s bytes b → a ≡ b
+load-unique s bytes a b p q = loaded-injective a b (p .is ∙ sym (q .is))
+
+-- A refused load leaves the schedule as it was.
+pub load-refusal : (s : Schedule) (bytes : List ℕ) → AllBytes bytes → (r : Loaded) → Loads s bytes r → (n : ℕ) → ofLoaded r .answer ≡ refused n → r .schedule ≡ s
+load-refusal s bytes b r p n e =
+    ap (λ (o : Outcome). o .schedule) (p .is)
+    ∙ refusal-keeps-schedule s (Leaves.loads bytes b) n (ap (λ (o : Outcome). o .answer) (sym (p .is)) ∙ e)

@@ -1,0 +1,115 @@
+-- What several numbers stored one after the other come to.
+use mathlib.Core.Path.{_≡_, refl, sym, ap, ap₂, _∙_}
+use mathlib.Core.List.{List, [], _∷_, _++_, append-nil}
+use mathlib.Core.Bool.{true, false}
+use Prim.Native.Nat.{ℕ, suc, _+_, _*_, _<_, _≤_}
+use native.Mathlib.Omega.{arith}
+use lib.ListN.{length, take, getD, set, length-take, length-append}
+use lib.Seq.{sets, take-suc}
+use Rattle.rules.specs.declared.Connection.{Connection}
+use Rattle.rules.specs.declared.Schedule.{Schedule}
+use Rattle.rules.specs.Ownership.{at}
+use Rattle.rules.specs.Bytes.{little}
+use Rattle.rules.specs.Image.{written, joined, countPiece, connectionPiece, connectionPieces, treePiece, pieces, image}
+use Rattle.rules.specs.Good.{Good}
+use Rattle.rules.specs.Answers.{refused, saved}
+use Rattle.rules.specs.Save.{Written, save}
+use Rattle.rules.proofs.PieceLaws.{joined-append}
+use Rattle.rules.proofs.ImageLaws.{connections-length, connections-count, image-length}
+use Rattle.rules.proofs.SaveLaws.{count-live, count-dead, joined-live, joined-dead, save-short, save-written}
+use Rattle.codec.proofs.Stores.{put-after}
+use Rattle.image.specs.Promises.{treeRecord, PutsConnections}
+
+module _ (l : List ℕ) (start : ℕ) where
+  pub header-put : (size kind : ℕ) {b c : List ℕ} → b ≡ sets l start (little 2 size) → c ≡ sets b (start + 2) (little 2 kind) → c ≡ sets l start (little 2 size ++ little 2 kind)
+  unfolding little
+  header-put size kind {b} {c} p q = put-after l b c start (start + 2) (little 2 size) (little 2 kind) p q refl
+
+  pub run-put : (h k A L : ℕ) {b c d e : List ℕ} → b ≡ sets l start (little 1 h) → c ≡ sets b (start + 1) (little 1 k) → d ≡ sets c (start + 2) (little 2 A) → e ≡ sets d (start + 4) (little 2 L)
+      → e ≡ sets l start (little 1 h ++ little 1 k ++ little 2 A ++ little 2 L)
+  unfolding little
+  run-put h k A L {b} {c} {d} {e} p q r t =
+      let x = put-after l b c start (start + 1) (little 1 h) (little 1 k) p q refl in
+      let y = put-after l c d start (start + 2) (little 1 h ++ little 1 k) (little 2 A) x r refl in
+      put-after l d e start (start + 4) (little 1 h ++ little 1 k ++ little 2 A) (little 2 L) y t refl
+
+  pub share-put : (f g m : ℕ) {b c d : List ℕ} → b ≡ sets l start (little 2 f) → c ≡ sets b (start + 2) (little 2 g) → d ≡ sets c (start + 4) (little 4 m)
+      → d ≡ sets l start (little 2 f ++ little 2 g ++ little 4 m)
+  unfolding little
+  share-put f g m {b} {c} {d} p q r =
+      let x = put-after l b c start (start + 2) (little 2 f) (little 2 g) p q refl in
+      put-after l c d start (start + 4) (little 2 f ++ little 2 g) (little 4 m) x r refl
+
+  pub connection-put : (h : ℕ) (s : Connection) {b c d : List ℕ} → b ≡ sets l start (little 2 14 ++ little 2 2)
+      → c ≡ sets b (start + 4) (little 1 h ++ little 1 (s .k) ++ little 2 (s .anchor) ++ little 2 (s .length))
+      → d ≡ sets c (start + 10) (little 2 (s .floor) ++ little 2 (s .ceiling) ++ little 4 (s .estimate))
+      → d ≡ sets l start (written (connectionPiece h s))
+  unfolding little written connectionPiece
+  connection-put h s {b} {c} {d} p q r =
+      let run = little 1 h ++ little 1 (s .k) ++ little 2 (s .anchor) ++ little 2 (s .length) in
+      let share = little 2 (s .floor) ++ little 2 (s .ceiling) ++ little 4 (s .estimate) in
+      let x = put-after l b c start (start + 4) (little 2 14 ++ little 2 2) run p q refl in
+      put-after l c d start (start + 10) (little 2 14 ++ little 2 2 ++ run) share x r refl
+
+-- The records of the handles before h and the one of h, if it is live.
+module _ (l : List ℕ) (start : ℕ) (cs : List Connection) (h : ℕ) (here : h < length cs) {b : List ℕ} {next : ℕ}
+    (p : b ≡ sets l start (joined (connectionPieces 0 (take h cs)))) (q : next ≡ start + 18 * length (connectionPieces 0 (take h cs))) where
+  pub live-put : at cs h .live ≡ true → {c : List ℕ} → c ≡ sets b next (written (connectionPiece h (at cs h)))
+      → (c ≡ sets l start (joined (connectionPieces 0 (take (h + 1) cs)))) × (next + 18 ≡ start + 18 * length (connectionPieces 0 (take (h + 1) cs)))
+  live-put e {c} r = (
+    put-after l b c start next (joined (connectionPieces 0 (take h cs))) (written (connectionPiece h (at cs h))) p r (omega (arith, q, connections-length 0 (take h cs)))
+        ∙ ap (λ (x : List ℕ). sets l start x) (sym (joined-live cs h here e)),
+    omega (arith, q, count-live cs h here e),
+  )
+
+  pub dead-put : at cs h .live ≡ false
+      → (b ≡ sets l start (joined (connectionPieces 0 (take (h + 1) cs)))) × (next ≡ start + 18 * length (connectionPieces 0 (take (h + 1) cs)))
+  dead-put e = (p ∙ ap (λ (x : List ℕ). sets l start x) (sym (joined-dead cs h here e)), omega (arith, q, count-dead cs h here e))
+
+-- The tree's record: its header, then its bytes one by one.
+module _ (l : List ℕ) (start : ℕ) (tree : List ℕ) where
+  pub tree-turn : (i : ℕ) → i < length tree → {b : List ℕ} → b ≡ sets l start (take i tree) → set b (start + i) (getD tree i 0) ≡ sets l start (take (i + 1) tree)
+  tree-turn i here {b} p =
+      let e : i + 1 ≡ suc i = omega arith in
+      let n : length (take i tree) ≡ i = simp length-take (omega arith) in
+      put-after l b (set b (start + i) (getD tree i 0)) start (start + i) (take i tree) (getD tree i 0 ∷ []) p refl (ap (λ (k : ℕ). start + k) (sym n))
+      ∙ rw e (ap (λ (x : List ℕ). sets l start x) (sym (take-suc tree i 0 here)))
+
+  pub tree-put : length tree ≡ 128 → {b c : List ℕ} → b ≡ sets l start (little 2 128 ++ little 2 3) → c ≡ sets b (start + 4) tree → c ≡ sets l start (written (treeRecord tree))
+  unfolding written
+  tree-put n {b} {c} p q =
+      put-after l b c start (start + 4) (little 2 128 ++ little 2 3) tree p q refl
+      ∙ ap (λ (k : ℕ). sets l start (little 2 k ++ little 2 3 ++ tree)) (sym n)
+
+-- The whole image: the count, the connections, the tree.
+image-put : (l : List ℕ) (cs : List Connection) {b c d e : List ℕ} {n next : ℕ}
+    → n ≡ length (connectionPieces 0 cs) → b ≡ sets l 0 (little 2 2 ++ little 2 1) → c ≡ sets b 4 (little 2 n)
+    → d ≡ sets c 6 (joined (connectionPieces 0 cs)) → next ≡ 6 + 18 * length (connectionPieces 0 cs) → e ≡ sets d next (written (treePiece cs))
+    → e ≡ sets l 0 (image cs)
+unfolding little written joined countPiece pieces image
+image-put l cs {b} {c} {d} {e} {n} {next} m p q r t u =
+    let each = joined (connectionPieces 0 cs) in
+    let count = little 2 2 ++ little 2 1 ++ little 2 n in
+    let x = put-after l b c 0 4 (little 2 2 ++ little 2 1) (little 2 n) p q refl in
+    let y = put-after l c d 0 6 count each x r refl in
+    let z = put-after l d e 0 next (count ++ each) (written (treePiece cs)) y u (omega (arith, t, length-append count each, connections-length 0 cs)) in
+    let ends : joined (connectionPieces 0 cs ++ (treePiece cs ∷ [])) ≡ each ++ written (treePiece cs) =
+    joined-append (connectionPieces 0 cs) (treePiece cs ∷ []) ∙ ap (λ (w : List ℕ). each ++ w) (append-nil (written (treePiece cs))) in
+    z ∙ ap (λ (w : List ℕ). sets l 0 (count ++ w)) (sym ends) ∙ ap (λ (k : ℕ). sets l 0 (written (countPiece k) ++ joined (connectionPieces 0 cs ++ (treePiece cs ∷ [])))) m
+
+-- ---- the exits of `save`
+module _ (s : Schedule) (good : Good s) (l : List ℕ) {n size : ℕ} (m : n ≡ length (connectionPieces 0 (s .connections))) (e : size ≡ 138 + 18 * n) where
+  size-is : size ≡ length (image (s .connections))
+  size-is = omega (arith, m, e, image-length (s .connections), connections-count 0 (s .connections))
+
+  pub too-short : length l < size → _≡_ {A = Written} (record { answer = refused 8; buffer = l }) (save s l)
+  too-short h = save-short s l (omega (arith, size-is))
+
+  pub image-saved : size ≤ length l → {b c d f : List ℕ} {next : ℕ} → b ≡ sets l 0 (little 2 2 ++ little 2 1) → c ≡ sets b 4 (little 2 n)
+      → PutsConnections 6 (s .connections) c d next → f ≡ sets d next (written (treeRecord (s .tree .bytes)))
+      → _≡_ {A = Written} (record { answer = saved size; buffer = f }) (save s l)
+  unfolding treePiece
+  image-saved h {b} {c} {d} {f} {next} p q r u =
+      let t : f ≡ sets d next (written (treePiece (s .connections))) = u ∙ ap (λ (x : List ℕ). sets d next (written (treeRecord x))) (good .hasTree) in
+      ap₂ (λ (k : ℕ) (x : List ℕ). record { answer = saved k; buffer = x }) size-is (image-put l (s .connections) m p q (r .bytes) (r .ends) t)
+      ∙ save-written s l (omega (arith, size-is))

@@ -1,0 +1,66 @@
+//! Load: checks 9, 10, 11, 12, each over the whole image before the next.
+ghost use mathlib.Core.Path.{_≡_};
+ghost use Prim.Native.Nat.{_+_};
+ghost use lib.ListN.{length, take, drop};
+ghost use Rattle.rules.specs.Bytes.{same};
+ghost use Rattle.rules.specs.Good.{Good};
+ghost use Rattle.image.specs.Promises.{Loads};
+use frame::framed;
+use restore::records_sound;
+use restore::restore;
+use rules::Frame;
+use rules::Loaded;
+use rules::Loading;
+use rules::Refusal;
+use rules::Schedule;
+
+// Whether the last bytes of the image are the tree's.
+fn ends_with(bytes: &[u8], at: usize, tree: &[u8; 128]) -> bool
+    requires { ⌜ (at + 128 ≡ length (now bytes)) × (length (now tree) ≡ 128) ⌝ }
+    ensures { λ r. ⌜ r ≡ same (take 128 (drop at (now (bytes .entry)))) (now (tree .entry)) ⌝ }
+{
+    for i in 0..128 {
+        if bytes[at + i] != tree[i] {
+            return false;
+        }
+    }
+    true
+}
+
+/// The schedule of an image, in place of the old one, and how many connections it has.
+pub fn load(s: Schedule, bytes: &[u8]) -> Loaded
+    requires { ⌜ Good s ⌝ }
+    ensures { λ r. ⌜ Loads s (now (bytes .entry)) r ⌝ }
+{
+    let frame = framed(bytes);
+    let Frame::Counts(n) = frame else {
+        return Loaded {
+            answer: Loading::Refused(Refusal::RecordsWrong),
+            schedule: s,
+        };
+    };
+    let count = n as usize;
+    if !records_sound(bytes, count) {
+        return Loaded {
+            answer: Loading::Refused(Refusal::NumbersUnsound),
+            schedule: s,
+        };
+    }
+    let new = restore(bytes, count);
+    if !new.apart {
+        return Loaded {
+            answer: Loading::Refused(Refusal::BlockOwnedTwice),
+            schedule: s,
+        };
+    }
+    if !ends_with(bytes, new.end + 4, &new.schedule.tree.bytes) {
+        return Loaded {
+            answer: Loading::Refused(Refusal::TreeDiffers),
+            schedule: s,
+        };
+    }
+    Loaded {
+        answer: Loading::Count(n),
+        schedule: new.schedule,
+    }
+}

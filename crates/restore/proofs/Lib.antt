@@ -1,0 +1,4 @@
+-- What the functions' proofs cite.
+mod Records
+mod Runs
+mod Turns

@@ -1,0 +1,2 @@
+-- What the checks of the connections promise.
+pub mod Promises

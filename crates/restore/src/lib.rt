@@ -1,0 +1,163 @@
+//! The connections of an image: checks 10 and 11 of a load.
+ghost use mathlib.Core.Path.{_≡_};
+ghost use mathlib.Core.Bool.{true};
+ghost use Prim.Native.Nat.{_+_, _<_, _≤_, _^_};
+ghost use lib.ListN.{length, take, drop};
+ghost use Rattle.rules.specs.Below.{tabulate};
+ghost use Rattle.rules.specs.Classes.{depth};
+ghost use Rattle.rules.specs.Sound.{soundNumbers};
+ghost use Rattle.rules.specs.Bytes.{littleNumber};
+ghost use Rattle.rules.specs.Load.{handleIn, connectionIn, soundPieces};
+ghost use Rattle.rules.specs.LoadSteps.{pieceAt, FramedAt};
+ghost use Rattle.restore.specs.Promises.{recordAt, Reads, RunFreeSays, Restores};
+use rules::Connection;
+use rules::Restored;
+use rules::Schedule;
+use rules::Tree;
+use run::class_at;
+use run::factor;
+use run::nobody;
+use run::set_run;
+
+// The cursor after the record at `cursor`: its header, and the payload as long as the header says.
+fn next(bytes: &[u8], cursor: usize) -> usize
+    requires { ⌜ cursor + 4 ≤ length (now bytes) ⌝ }
+    ensures { λ r. ⌜ r ≡ cursor + (4 + littleNumber (take 2 (drop cursor (now (bytes .entry))))) ⌝ }
+{
+    cursor + (4 + codec::number(bytes, cursor, 2) as usize)
+}
+
+// The number in `width` bytes of the record at a cursor, from its payload's byte `start` on.
+fn field(bytes: &[u8], at: usize, start: usize, width: usize) -> u32
+    requires { ⌜ (width ≤ 4) × (start + width ≤ 14) × (at + 18 ≤ length (now bytes)) ⌝ }
+    ensures { λ r. ⌜ Reads (now (bytes .entry)) at start width r ⌝ }
+{
+    codec::number(bytes, at + 4 + start, width)
+}
+
+// The handle of the record at a cursor.
+fn handle_at(bytes: &[u8], at: usize) -> u8
+    requires { ⌜ at + 18 ≤ length (now bytes) ⌝ }
+    ensures { λ r. ⌜ r ≡ handleIn (recordAt (now (bytes .entry)) at) ⌝ }
+{
+    field(bytes, at, 0, 1) as u8
+}
+
+// The connection of the record at a cursor.
+fn connection_at(bytes: &[u8], at: usize) -> Connection
+    requires { ⌜ at + 18 ≤ length (now bytes) ⌝ }
+    ensures { λ r. ⌜ r ≡ connectionIn (recordAt (now (bytes .entry)) at) ⌝ }
+{
+    Connection {
+        live: true,
+        k: field(bytes, at, 1, 1) as u8,
+        anchor: field(bytes, at, 2, 2) as u16,
+        length: field(bytes, at, 4, 2) as u16,
+        floor: field(bytes, at, 6, 2) as u16,
+        ceiling: field(bytes, at, 8, 2) as u16,
+        estimate: field(bytes, at, 10, 4),
+    }
+}
+
+// 1 ≤ floor ≤ L ≤ ceiling ≤ F = 2^k, k at most 9, the anchor below F, the estimate at most L × 7,500.
+fn numbers_sound(c: Connection) -> bool
+    ensures { λ r. ⌜ r ≡ soundNumbers c ⌝ }
+{
+    if 9 < c.k {
+        return false;
+    }
+    let f = factor(c.k as u32);
+    if f <= c.anchor as u32 {
+        return false;
+    }
+    if c.floor < 1 {
+        return false;
+    }
+    if c.length < c.floor {
+        return false;
+    }
+    if c.ceiling < c.length {
+        return false;
+    }
+    if f < c.ceiling as u32 {
+        return false;
+    }
+    if c.length as u32 * 7500 < c.estimate {
+        return false;
+    }
+    true
+}
+
+/// Check 10: each record's numbers are sound, and the handles rise.
+pub fn records_sound(bytes: &[u8], n: usize) -> bool
+    requires { ⌜ FramedAt (now bytes) n ⌝ }
+    ensures { λ r. ⌜ r ≡ soundPieces 0 (tabulate n (pieceAt (now (bytes .entry)))) ⌝ }
+{
+    let mut cursor = next(bytes, 0);
+    let mut least: u8 = 0;
+    for i in 0..n {
+        let h = handle_at(bytes, cursor);
+        if 63 < h {
+            return false;
+        }
+        if h < least {
+            return false;
+        }
+        if !numbers_sound(connection_at(bytes, cursor)) {
+            return false;
+        }
+        least = h + 1;
+        cursor = next(bytes, cursor);
+    }
+    true
+}
+
+// Every class of the run is free.
+fn run_free(tree: &[u8; 128], k: u32, anchor: u32, length: u32) -> bool
+    requires { ⌜ (k ≤ depth) × (anchor < 2 ^ k) × (length ≤ 2 ^ k) ⌝ }
+    ensures { λ r. ⌜ RunFreeSays k anchor length (now (tree .entry)) r ⌝ }
+{
+    for j in 0..length {
+        if !tree::is_free(tree, k, class_at(k, anchor, j)) {
+            return false;
+        }
+    }
+    true
+}
+
+// The connections with the bytes of their tree, whether they are apart, and the cursor after them.
+fn answer(apart: bool, connections: [Connection; 64], bytes: [u8; 128], end: usize) -> Restored
+    ensures { λ r. ⌜ (r .apart ≡ apart) × (r .schedule .connections ≡ connections) × (r .schedule .tree .bytes ≡ bytes) × (r .end ≡ end) ⌝ }
+{
+    let tree = Tree { bytes };
+    let schedule = Schedule { connections, tree };
+    Restored {
+        apart,
+        schedule,
+        end,
+    }
+}
+
+/// Check 11: the connections of the records with their tree, taken one after the other on an empty tree; or two of them own one block.
+pub fn restore(bytes: &[u8], n: usize) -> Restored
+    requires { ⌜ FramedAt (now bytes) n × (soundPieces 0 (tabulate n (pieceAt (now bytes))) ≡ true) ⌝ }
+    ensures { λ r. ⌜ Restores (tabulate n (pieceAt (now (bytes .entry)))) r ⌝ }
+{
+    let mut connections = [nobody(); 64];
+    let mut tree = tree::empty();
+    let mut cursor = next(bytes, 0);
+    for i in 0..n {
+        let c = connection_at(bytes, cursor);
+        let k = c.k as u32;
+        let anchor = c.anchor as u32;
+        let length = c.length as u32;
+        if !run_free(&tree, k, anchor, length) {
+            return answer(false, connections, tree, cursor);
+        }
+        set_run(&mut tree, k, anchor, 0, length, true);
+        let h = handle_at(bytes, cursor) as usize;
+        connections[h] = c;
+        cursor = next(bytes, cursor);
+    }
+    answer(true, connections, tree, cursor)
+}
