@@ -11,14 +11,12 @@ use Rattle.rules.specs.declared.Frame.{Frame}
 use Rattle.rules.specs.declared.Frame.the-variants.{Counts, Wrong}
 use Rattle.rules.specs.declared.Loaded.{Loaded}
 use Rattle.rules.specs.declared.Restored.{Restored}
-use Rattle.rules.specs.Below.{tabulate}
 use Rattle.rules.specs.Ownership.{taken}
 use Rattle.rules.specs.Good.{Good, treeFor, scheduleOf}
 use Rattle.rules.specs.Answers.{Outcome, refusing, loaded, ofLoaded}
 use Rattle.rules.specs.Bytes.{same}
-use Rattle.rules.specs.Image.{Piece}
 use Rattle.rules.specs.Load.{soundPieces, restored, load}
-use Rattle.rules.specs.LoadSteps.{ofFrame, frameStep, pieceAt, FramedAt}
+use Rattle.rules.specs.LoadSteps.{ofFrame, frameStep, pieceAt, records, FramedAt}
 use Rattle.rules.proofs.BelowLaws.{length-tabulate}
 use Rattle.rules.proofs.BytesLaws.{AllBytes}
 use Rattle.rules.proofs.TreeLaws.{tree-sized}
@@ -27,10 +25,6 @@ use Rattle.rules.proofs.FrameLaws.{framed-right}
 use Rattle.rules.proofs.LoadLaws.{frame-framed, frame-refuses, load-9, load-10, load-11, load-12, load-ok}
 use Rattle.restore.specs.Promises.{Restores}
 use Rattle.image.specs.Promises.{Loads}
-
--- The records of the connections that n counts.
-abbrev pub records : List ℕ → ℕ → List Piece
-records bytes n = tabulate n (pieceAt bytes)
 
 schedule-tree : (cs : List Connection) (s : Schedule) → s ≡ scheduleOf cs → s .tree .bytes ≡ treeFor cs
 unfolding scheduleOf

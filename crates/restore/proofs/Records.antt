@@ -5,15 +5,14 @@ use mathlib.Core.List.{List, [], _∷_}
 use Prim.Native.Nat.{ℕ, zero, suc, _+_, _*_, _^_, _<_, _≤_}
 use native.Mathlib.Numerals.{add-one}
 use native.Mathlib.Omega.{arith}
-use lib.ListN.{length, take, drop, length-take, length-drop}
+use lib.ListN.{length, take, drop, length-take, length-drop, drop-of-length-le}
 use lib.Seq.{drop-cons, drop-drop, take-take}
 use Rattle.rules.specs.declared.Connection.{Connection}
-use Rattle.rules.specs.Below.{tabulate}
 use Rattle.rules.specs.Sound.{soundNumbers}
 use Rattle.rules.specs.Bytes.{littleNumber}
 use Rattle.rules.specs.Image.{Piece}
 use Rattle.rules.specs.Load.{handleIn, connectionIn, soundPieces}
-use Rattle.rules.specs.LoadSteps.{pieceAt, FramedAt}
+use Rattle.rules.specs.LoadSteps.{pieceAt, records, FramedAt}
 use Rattle.rules.proofs.BoolLaws.{is-false}
 use Rattle.rules.proofs.BelowLaws.{length-tabulate, getD-tabulate}
 use Rattle.rules.proofs.BytesLaws.{AllBytes, bytes-take, bytes-drop, number-lt}
@@ -67,9 +66,6 @@ pub unsound : (c : Connection) → (Numbers c → ⊥) → soundNumbers c ≡ fa
 unsound c n = is-false (soundNumbers c) (λ e. n (numbers-sound c .0 e))
 
 -- ---- the records from i on
-abbrev pub records : List ℕ → ℕ → List Piece
-records bytes n = tabulate n (pieceAt bytes)
-
 abbrev recordsFrom : List ℕ → ℕ → ℕ → List Piece
 recordsFrom bytes n i = drop i (records bytes n)
 
@@ -79,13 +75,9 @@ records-more bytes n i l =
     ∙ ap {B = List Piece} (λ r. r ∷ recordsFrom bytes n (suc i)) (getD-tabulate n (pieceAt bytes) i (pieceAt bytes i) l)
 
 records-end : (bytes : List ℕ) (n i : ℕ) → n ≤ i → recordsFrom bytes n i ≡ []
-records-end bytes n i l = none (records bytes n) i (omega (arith, length-tabulate n (pieceAt bytes)))
-  where
-    none : (rs : List Piece) (i : ℕ) → length rs ≤ i → drop i rs ≡ []
-    none [] zero l = refl
-    none [] (suc i) l = refl
-    none (r ∷ rs) zero l = absurd (omega arith)
-    none (r ∷ rs) (suc i) l = none rs i (omega arith)
+records-end bytes n i l =
+    let short : length (records bytes n) ≤ i = omega (arith, length-tabulate n (pieceAt bytes)) in
+    drop-of-length-le (records bytes n) short
 
 -- ---- check 10 up to record i: what it says is what the records from i on say
 abbrev pub Tested : List ℕ → ℕ → ℕ → ℕ → Type 0

@@ -16,7 +16,7 @@ use Rattle.rules.specs.Sound.{apart}
 use Rattle.rules.specs.Good.{treeFor, scheduleOf}
 use Rattle.rules.specs.Image.{Piece}
 use Rattle.rules.specs.Load.{handleIn, connectionIn, soundPieces, restored}
-use Rattle.rules.specs.LoadSteps.{pieceAt}
+use Rattle.rules.specs.LoadSteps.{pieceAt, records}
 use Rattle.rules.proofs.BelowLaws.{length-tabulate, tabulate-last}
 use Rattle.rules.proofs.SoundLaws.{Numbers}
 use Rattle.rules.proofs.ScheduleLaws.{fresh-tree}
@@ -24,7 +24,7 @@ use Rattle.rules.proofs.RestoreLaws.{numbers-here, handle-here, placed-here, ru
 use Rattle.tree.specs.Promises.{IsTree}
 use Rattle.run.specs.Promises.{SetsRun}
 use Rattle.restore.specs.Promises.{RunFreeSays, Restores}
-use Rattle.restore.proofs.Records.{records, Cursor}
+use Rattle.restore.proofs.Records.{Cursor}
 
 -- The first i records are taken, and no block belongs to two of them.
 pub record Taken (bytes : List ℕ) (i : ℕ) (cs : List Connection) (tree : List ℕ) : Type 0 where

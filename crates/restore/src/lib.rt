@@ -3,12 +3,11 @@ ghost use mathlib.Core.Path.{_≡_};
 ghost use mathlib.Core.Bool.{true};
 ghost use Prim.Native.Nat.{_+_, _<_, _≤_, _^_};
 ghost use lib.ListN.{length, take, drop};
-ghost use Rattle.rules.specs.Below.{tabulate};
 ghost use Rattle.rules.specs.Classes.{depth};
 ghost use Rattle.rules.specs.Sound.{soundNumbers};
 ghost use Rattle.rules.specs.Bytes.{littleNumber};
 ghost use Rattle.rules.specs.Load.{handleIn, connectionIn, soundPieces};
-ghost use Rattle.rules.specs.LoadSteps.{pieceAt, FramedAt};
+ghost use Rattle.rules.specs.LoadSteps.{records, FramedAt};
 ghost use Rattle.restore.specs.Promises.{recordAt, Reads, RunFreeSays, Restores};
 use rules::Connection;
 use rules::Restored;
@@ -91,7 +90,7 @@ fn numbers_sound(c: Connection) -> bool
 /// Check 10: each record's numbers are sound, and the handles rise.
 pub fn records_sound(bytes: &[u8], n: usize) -> bool
     requires { ⌜ FramedAt (now bytes) n ⌝ }
-    ensures { λ r. ⌜ r ≡ soundPieces 0 (tabulate n (pieceAt (now (bytes .entry)))) ⌝ }
+    ensures { λ r. ⌜ r ≡ soundPieces 0 (records (now (bytes .entry)) n) ⌝ }
 {
     let mut cursor = next(bytes, 0);
     let mut least: u8 = 0;
@@ -140,8 +139,8 @@ fn answer(apart: bool, connections: [Connection; 64], bytes: [u8; 128], end: usi
 
 /// Check 11: the connections of the records with their tree, taken one after the other on an empty tree; or two of them own one block.
 pub fn restore(bytes: &[u8], n: usize) -> Restored
-    requires { ⌜ FramedAt (now bytes) n × (soundPieces 0 (tabulate n (pieceAt (now bytes))) ≡ true) ⌝ }
-    ensures { λ r. ⌜ Restores (tabulate n (pieceAt (now (bytes .entry)))) r ⌝ }
+    requires { ⌜ FramedAt (now bytes) n × (soundPieces 0 (records (now bytes) n) ≡ true) ⌝ }
+    ensures { λ r. ⌜ Restores (records (now (bytes .entry)) n) r ⌝ }
 {
     let mut connections = [nobody(); 64];
     let mut tree = tree::empty();

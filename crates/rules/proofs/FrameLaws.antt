@@ -155,11 +155,6 @@ module _ (bytes : List ℕ) (n : ℕ) (h : AllBytes bytes) (f : FramedAt bytes n
   unfolding recordsWrong
   right-pieces = ap not (ap₂ _&&_ (same-exactly (joined (framedPieces bytes n)) bytes .1 (framed-joined bytes n h f)) shaped-right)
 
--- The records of framed bytes are the count's, one for each connection, and the tree's.
-pub framed-pieces : (bytes : List ℕ) (n : ℕ) → AllBytes bytes → FramedAt bytes n
-    → piecesOf bytes ≡ record { kind = 1; payload = take 2 (drop 4 bytes) } ∷ (tabulate n (pieceAt bytes) ++ (record { kind = 3; payload = take 128 (drop (10 + 18 * n) bytes) } ∷ []))
-framed-pieces bytes n h f = pieces-are bytes n h f
-
 -- What framed bytes say: check 9 passes; the count, the connections' records and the tree bytes stand at their places.
 pub record FramedSays (bytes : List ℕ) (n : ℕ) : Type 0 where
   pub passes : recordsWrong bytes (piecesOf bytes) ≡ false

@@ -8,7 +8,6 @@ use native.Mathlib.Omega.{arith}
 use lib.ListN.{take, drop}
 use Rattle.rules.specs.declared.Connection.{Connection}
 use Rattle.rules.specs.declared.Schedule.{Schedule}
-use Rattle.rules.specs.Below.{tabulate}
 use Rattle.rules.specs.Sound.{apart}
 use Rattle.rules.specs.Good.{treeFor, scheduleOf}
 use Rattle.rules.specs.Refusals.{Check, check, decided}
@@ -17,7 +16,7 @@ use Rattle.rules.specs.Bytes.{same}
 use Rattle.rules.specs.Image.{Piece}
 use Rattle.rules.specs.Load.{piecesOf, countIn, recordsWrong, soundPieces, numbersUnsound, restored, treeIn, connectionsOf, loadChecks, loadDone, load}
 use Rattle.rules.specs.Steps.{gives, refuses}
-use Rattle.rules.specs.LoadSteps.{frameStep, pieceAt, FramedAt}
+use Rattle.rules.specs.LoadSteps.{frameStep, records, FramedAt}
 use Rattle.rules.proofs.BytesLaws.{AllBytes}
 use Rattle.rules.proofs.RefusalLaws.{decided-stop, decided-skip, FirstRefusal, refusing-exactly}
 use Rattle.rules.proofs.FrameLaws.{FramedSays, framed-exactly}
@@ -69,38 +68,38 @@ module _ (s : Schedule) (bytes : List ℕ) where
     unfolding load loadChecks
     after-9 = decided-skip 9 (recordsWrong bytes (piecesOf bytes)) (from10 bytes) (refusing s) (loadDone bytes) (f .passes)
 
-    sound-is : numbersUnsound (piecesOf bytes) ≡ not (soundPieces 0 (tabulate n (pieceAt bytes)))
+    sound-is : numbersUnsound (piecesOf bytes) ≡ not (soundPieces 0 (records bytes n))
     unfolding numbersUnsound
     sound-is = ap (λ (rs : List Piece). not (soundPieces 0 rs)) (f .connections)
 
-    connections-are : connectionsOf (piecesOf bytes) ≡ restored (tabulate n (pieceAt bytes))
+    connections-are : connectionsOf (piecesOf bytes) ≡ restored (records bytes n)
     unfolding connectionsOf
     connections-are = ap restored (f .connections)
 
-    done-is : decided [] (refusing s) (loadDone bytes) ≡ record { answer = loaded n; schedule = scheduleOf (restored (tabulate n (pieceAt bytes))) }
+    done-is : decided [] (refusing s) (loadDone bytes) ≡ record { answer = loaded n; schedule = scheduleOf (restored (records bytes n)) }
     unfolding decided loadDone
     done-is = ap₂ (λ (m : ℕ) (cs : List Connection). record { answer = loaded m; schedule = scheduleOf cs }) (f .counted) connections-are
 
-    pub load-10 : soundPieces 0 (tabulate n (pieceAt bytes)) ≡ false → refusing s 10 ≡ load s bytes
+    pub load-10 : soundPieces 0 (records bytes n) ≡ false → refusing s 10 ≡ load s bytes
     load-10 e = sym (after-9 ∙ decided-stop 10 (numbersUnsound (piecesOf bytes)) (from11 bytes) (refusing s) (loadDone bytes) (sound-is ∙ ap not e))
 
-    module _ (p : soundPieces 0 (tabulate n (pieceAt bytes)) ≡ true) where
+    module _ (p : soundPieces 0 (records bytes n) ≡ true) where
       after-10 : load s bytes ≡ decided (from11 bytes) (refusing s) (loadDone bytes)
       after-10 = after-9 ∙ decided-skip 10 (numbersUnsound (piecesOf bytes)) (from11 bytes) (refusing s) (loadDone bytes) (sound-is ∙ ap not p)
 
-      pub load-11 : apart (restored (tabulate n (pieceAt bytes))) ≡ false → refusing s 11 ≡ load s bytes
+      pub load-11 : apart (restored (records bytes n)) ≡ false → refusing s 11 ≡ load s bytes
       load-11 e = sym (after-10 ∙ decided-stop 11 (not (apart (connectionsOf (piecesOf bytes)))) (from12 bytes) (refusing s) (loadDone bytes) (ap (λ (cs : List Connection). not (apart cs)) connections-are ∙ ap not e))
 
-      module _ (q : apart (restored (tabulate n (pieceAt bytes))) ≡ true) where
+      module _ (q : apart (restored (records bytes n)) ≡ true) where
         after-11 : load s bytes ≡ decided (from12 bytes) (refusing s) (loadDone bytes)
         after-11 = after-10 ∙ decided-skip 11 (not (apart (connectionsOf (piecesOf bytes)))) (from12 bytes) (refusing s) (loadDone bytes) (ap (λ (cs : List Connection). not (apart cs)) connections-are ∙ ap not q)
 
-        tree-is : not (same (treeIn (piecesOf bytes)) (treeFor (connectionsOf (piecesOf bytes)))) ≡ not (same (take 128 (drop (10 + 18 * n) bytes)) (treeFor (restored (tabulate n (pieceAt bytes)))))
+        tree-is : not (same (treeIn (piecesOf bytes)) (treeFor (connectionsOf (piecesOf bytes)))) ≡ not (same (take 128 (drop (10 + 18 * n) bytes)) (treeFor (restored (records bytes n))))
         tree-is = ap₂ (λ (t : List ℕ) (cs : List Connection). not (same t (treeFor cs))) (f .tree) connections-are
 
-        pub load-12 : same (take 128 (drop (10 + 18 * n) bytes)) (treeFor (restored (tabulate n (pieceAt bytes)))) ≡ false → refusing s 12 ≡ load s bytes
+        pub load-12 : same (take 128 (drop (10 + 18 * n) bytes)) (treeFor (restored (records bytes n))) ≡ false → refusing s 12 ≡ load s bytes
         load-12 e = sym (after-11 ∙ decided-stop 12 (not (same (treeIn (piecesOf bytes)) (treeFor (connectionsOf (piecesOf bytes))))) [] (refusing s) (loadDone bytes) (tree-is ∙ ap not e))
 
-        pub load-ok : same (take 128 (drop (10 + 18 * n) bytes)) (treeFor (restored (tabulate n (pieceAt bytes)))) ≡ true
-            → _≡_ {A = Outcome} (record { answer = loaded n; schedule = scheduleOf (restored (tabulate n (pieceAt bytes))) }) (load s bytes)
+        pub load-ok : same (take 128 (drop (10 + 18 * n) bytes)) (treeFor (restored (records bytes n))) ≡ true
+            → _≡_ {A = Outcome} (record { answer = loaded n; schedule = scheduleOf (restored (records bytes n)) }) (load s bytes)
         load-ok e = sym (after-11 ∙ decided-skip 12 (not (same (treeIn (piecesOf bytes)) (treeFor (connectionsOf (piecesOf bytes))))) [] (refusing s) (loadDone bytes) (tree-is ∙ ap not e) ∙ done-is)

@@ -4,6 +4,7 @@ use mathlib.Core.Bool.{Bool, true, false, cond}
 use mathlib.Core.List.{List, [], _∷_, _++_, append-nil}
 use Prim.Native.Nat.{ℕ, suc, _+_, _<_, _≤_}
 use native.Mathlib.Nat.{add-zero}
+use native.Mathlib.Numerals.{add-one}
 use native.Mathlib.Omega.{arith}
 use lib.ListN.{length, take, drop, length-append, length-take, take-append-drop}
 use lib.Seq.{sets, sets-eq, take-suc}
@@ -37,12 +38,9 @@ module _ (cs : List Connection) (h : ℕ) (l : h < length cs) where
   pub pieces-turn : connectionPieces 0 (take (h + 1) cs) ≡ connectionPieces 0 (take h cs) ++ connectionPieces h (at cs h ∷ [])
   pieces-turn =
       let n : 0 + length (take h cs) ≡ h = simp length-take (omega arith) in
-      rw (add-one-at h) (ap (connectionPieces 0) (take-suc cs h nobody l)
+      rw (add-one h) (ap (connectionPieces 0) (take-suc cs h nobody l)
       ∙ pieces-append 0 (take h cs) (at cs h ∷ [])
       ∙ ap (λ (g : ℕ). connectionPieces 0 (take h cs) ++ connectionPieces g (at cs h ∷ [])) n)
-    where
-      add-one-at : (m : ℕ) → m + 1 ≡ suc m
-      add-one-at m = omega arith
 
   -- It has a record if it is live.
   pub pieces-live : at cs h .live ≡ true → connectionPieces 0 (take (h + 1) cs) ≡ connectionPieces 0 (take h cs) ++ (connectionPiece h (at cs h) ∷ [])

@@ -6,6 +6,7 @@ use mathlib.Core.List.{List}
 use lib.ListN.{length, take, drop}
 use Rattle.rules.specs.declared.Frame.{Frame}
 use Rattle.rules.specs.declared.Frame.the-variants.{Counts, Wrong}
+use Rattle.rules.specs.Below.{tabulate}
 use Rattle.rules.specs.Steps.{Step, gives, refuses}
 use Rattle.rules.specs.Bytes.{littleNumber}
 use Rattle.rules.specs.Image.{Piece}
@@ -24,6 +25,10 @@ frameStep bytes = cond (recordsWrong bytes (piecesOf bytes)) (refuses 9) (gives 
 -- Record i of the connections: its payload has 14 bytes, after a record of 6 bytes and i of 18.
 abbrev pub pieceAt : List ℕ → ℕ → Piece
 pieceAt bytes i = record { kind = 2; payload = take 14 (drop (10 + 18 * i) bytes) }
+
+-- The first n of them.
+abbrev pub records : List ℕ → ℕ → List Piece
+records bytes n = tabulate n (pieceAt bytes)
 
 -- The bytes are framed, by places: the count record, n connection records of 18 bytes, the tree record, nothing more.
 pub record FramedAt (bytes : List ℕ) (n : ℕ) : Type 0 where

@@ -6,9 +6,9 @@ use native.Mathlib.Omega.{arith}
 use lib.ListN.{length}
 use borrow.Author.Tests.{not-true, not-false}
 use Rattle.rules.specs.Load.{handleIn, connectionIn}
-use Rattle.rules.specs.LoadSteps.{pieceAt}
+use Rattle.rules.specs.LoadSteps.{records, pieceAt}
 use Rattle.rules.proofs.SoundLaws.{Numbers}
-use Rattle.restore.proofs.Records.{Cursor, cursor-first, cursor-room, cursor-next, record-at, records}
+use Rattle.restore.proofs.Records.{Cursor, cursor-first, cursor-room, cursor-next, record-at}
 use Rattle.restore.proofs.Turns.{Taken, taken-none, taken-tree, turn-numbers, turn-handle, turn-clash, turn-takes, restores-not, restores-all}
 use Rattle.restore.proofs.restore.Statement.{statement}
 use Rattle.restore.proofs.restore.Tie as tie
