@@ -1,2 +1,2 @@
--- Stores one after the other, and a number byte by byte.
+-- A number, read and stored byte by byte.
 pub mod Stores

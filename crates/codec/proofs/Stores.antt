@@ -1,25 +1,15 @@
--- Stores one after the other, and a number byte by byte.
-use mathlib.Core.Path.{_≡_, sym, ap, ap₂, _∙_}
+-- A number, read and stored byte by byte.
+use mathlib.Core.Path.{_≡_, sym, ap, _∙_}
 use mathlib.Core.List.{List, [], _∷_, _++_}
 use Prim.Native.Nat.{ℕ, zero, suc, _+_, _-_, _*_, _/_, _%_, _^_, _<_, _≤_}
-use native.Mathlib.Nat.{add-zero, pow-suc, div-one, div-div-eq-div-mul, mul-comm, lt-of-lt-of-le, pow-le-pow-right}
+use native.Mathlib.Nat.{pow-suc, div-one, div-div-eq-div-mul, mul-comm, lt-of-lt-of-le, pow-le-pow-right}
 use native.Mathlib.Numerals.{add-one}
 use native.Mathlib.Omega.{arith}
 use lib.ListN.{length, getD, take, drop, set}
 use lib.Dec.{lit≤}
 use lib.Seq.{sets, drop-cons}
 use Rattle.rules.specs.Bytes.{little, littleNumber}
-
--- What is stored after something is stored behind it.
-pub sets-append : (l : List ℕ) (i : ℕ) (xs ys : List ℕ) → sets (sets l i xs) (i + length xs) ys ≡ sets l i (xs ++ ys)
-sets-append l i [] ys = ap (λ (k : ℕ). sets l k ys) (add-zero i)
-sets-append l i (x ∷ xs) ys =
-    let e : i + suc (length xs) ≡ suc i + length xs = omega arith in
-    ap (λ (k : ℕ). sets (sets (set l i x) (suc i) xs) k ys) e ∙ sets-append (set l i x) (suc i) xs ys
-
--- What is stored second, where the first ends.
-pub put-after : (l b c : List ℕ) (i j : ℕ) (xs ys : List ℕ) → b ≡ sets l i xs → c ≡ sets b j ys → j ≡ i + length xs → c ≡ sets l i (xs ++ ys)
-put-after l b c i j xs ys p q e = q ∙ ap₂ (λ (x : List ℕ) (k : ℕ). sets x k ys) p e ∙ sets-append l i xs ys
+use Rattle.rules.proofs.StoreLaws.{sets-append}
 
 -- One byte more of a number.
 pub little-snoc : (w n : ℕ) → little (w + 1) n ≡ little w n ++ (n / 256 ^ w % 256 ∷ [])

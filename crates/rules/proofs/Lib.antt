@@ -21,6 +21,7 @@ pub mod LiveLaws
 pub mod CallLaws
 pub mod AnswerLaws
 pub mod BytesLaws
+pub mod StoreLaws
 pub mod PieceLaws
 pub mod ImageLaws
 pub mod SaveLaws
@@ -30,3 +31,8 @@ pub mod RoundTrip
 pub mod RestoreLaws
 pub mod NotEmpty
 pub mod TableP
+pub mod WholeCase
+pub mod DecimalLaws
+pub mod SplitLaws
+pub mod CommandLaws
+pub mod ProgramLaws

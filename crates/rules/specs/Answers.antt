@@ -16,10 +16,13 @@ use Rattle.rules.specs.declared.Saving.{Saving}
 use Rattle.rules.specs.declared.Saving.the-variants.{Size, Refused as SavingRefused}
 use Rattle.rules.specs.declared.Loading.{Loading}
 use Rattle.rules.specs.declared.Loading.the-variants.{Count, Refused as LoadingRefused}
+use Rattle.rules.specs.declared.Reply.{Reply}
+use Rattle.rules.specs.declared.Reply.the-variants.{Admission as ReplyAdmission, Dropping as ReplyDropping, Reporting as ReplyReporting, Ownership as ReplyOwnership, Distance as ReplyDistance}
 use Rattle.rules.specs.declared.Admitted.{Admitted}
 use Rattle.rules.specs.declared.Dropped.{Dropped}
 use Rattle.rules.specs.declared.Reported.{Reported}
 use Rattle.rules.specs.declared.Loaded.{Loaded}
+use Rattle.rules.specs.declared.Obeyed.{Obeyed}
 use Rattle.rules.specs.Refusals.{number}
 
 -- The sheet's answers, with their numbers and values.
@@ -90,6 +93,13 @@ abbrev pub ofLoading : Loading → Answer
 ofLoading (Count n) = loaded n
 ofLoading (LoadingRefused r) = refused (number r)
 
+abbrev pub ofReply : Reply → Answer
+ofReply (ReplyAdmission a) = ofAdmission a
+ofReply (ReplyDropping a) = ofDropping a
+ofReply (ReplyReporting a) = ofReporting a
+ofReply (ReplyOwnership a) = ofOwnership a
+ofReply (ReplyDistance a) = ofDistance a
+
 -- ---- and for each result that has a schedule beside the answer
 abbrev pub ofAdmitted : Admitted → Outcome
 ofAdmitted r = record { answer = ofAdmission (r .answer); schedule = r .schedule }
@@ -102,3 +112,6 @@ ofReported r = record { answer = ofReporting (r .answer); schedule = r .schedule
 
 abbrev pub ofLoaded : Loaded → Outcome
 ofLoaded r = record { answer = ofLoading (r .answer); schedule = r .schedule }
+
+abbrev pub ofObeyed : Obeyed → Outcome
+ofObeyed r = record { answer = ofReply (r .reply); schedule = r .schedule }

@@ -24,3 +24,10 @@ pub mod Image
 pub mod Save
 pub mod Load
 pub mod LoadSteps
+pub mod Text
+pub mod Decimal
+pub mod Split
+pub mod Words
+pub mod Commands
+pub mod LineSteps
+pub mod Program

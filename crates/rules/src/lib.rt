@@ -121,6 +121,49 @@ pub enum Loading {
     Refused(Refusal),
 }
 
+/// The answer of any call that a command makes.
+pub enum Reply {
+    Admission(Admission),
+    Dropping(Dropping),
+    Reporting(Reporting),
+    Ownership(Ownership),
+    Distance(Distance),
+}
+
+// ---- the command text
+
+/// A command: a call that a line can make, with its numbers.
+pub enum Command {
+    Admit {
+        handle: u32,
+        interval: u32,
+        floor: u32,
+        ceiling: u32,
+    },
+    Drop(u32),
+    Report {
+        handle: u32,
+        sample: u32,
+    },
+    Owner(u32),
+    Anchor {
+        handle: u32,
+        block: u32,
+    },
+}
+
+/// What a line says.
+pub enum Line {
+    Says(Command),
+    Bad,
+}
+
+/// The number that digits say.
+pub enum Number {
+    Is(u32),
+    Wrong,
+}
+
 // ---- an answer beside the schedule that it leaves
 
 pub struct Admitted {
@@ -147,5 +190,10 @@ pub struct Restored {
 
 pub struct Loaded {
     pub answer: Loading,
+    pub schedule: Schedule,
+}
+
+pub struct Obeyed {
+    pub reply: Reply,
     pub schedule: Schedule,
 }

@@ -22,22 +22,7 @@ pub fn end() {
 /// The line of a refusal.
 pub fn refused(r: Refusal) {
     word(b"no");
-    number(
-        match r {
-            Refusal::HandleAbove63 => 1,
-            Refusal::HandleLive => 2,
-            Refusal::HandleNotLive => 3,
-            Refusal::IntervalOutside => 4,
-            Refusal::ShareWrong => 5,
-            Refusal::NoOpenAnchor => 6,
-            Refusal::SampleAboveRun => 7,
-            Refusal::BufferShort => 8,
-            Refusal::RecordsWrong => 9,
-            Refusal::NumbersUnsound => 10,
-            Refusal::BlockOwnedTwice => 11,
-            Refusal::TreeDiffers => 12,
-        },
-    );
+    number(text::refusal_number(r) as u64);
     end();
 }
 

@@ -1,0 +1,19 @@
+-- `command::run` meets its contract: what is printed, over zeros.
+use borrow.Author.Needs.{needs}
+use Rattle.command.proofs.Whole.{runs}
+use Rattle.command.proofs.running.run.Statement.{statement}
+use Rattle.command.proofs.running.run.Tie as tie
+
+slice-aggregate-print : tie.Need-slice-aggregate-print
+slice-aggregate-print c = search needs
+
+print-requires : tie.Need-print-requires
+print-requires c κs = search needs
+
+returns : tie.Need-returns
+returns c =
+    let p = c .before .print in
+    runs (c .before .before .before .before .args .input .now) (p .last .1 .0) (p .result) (p .ensures)
+
+pub run-spec : {M : Type 1} → statement M
+run-spec = tie.close (tie.spec slice-aggregate-print print-requires returns)

@@ -1,0 +1,2 @@
+-- What the command program promises.
+pub mod Promises

@@ -1,0 +1,39 @@
+-- What the command program promises.
+use Prim.Native.Nat.{ℕ, _+_, _-_, _*_, _≤_}
+use mathlib.Core.Path.{_≡_}
+use mathlib.Core.List.{List, _++_}
+use lib.ListN.{length, replicate}
+use Rattle.rules.specs.declared.Schedule.{Schedule}
+use Rattle.rules.specs.declared.Command.{Command}
+use Rattle.rules.specs.declared.Obeyed.{Obeyed}
+use Rattle.rules.specs.Good.{Good}
+use Rattle.rules.specs.Answers.{ofObeyed}
+use Rattle.rules.specs.Commands.{says}
+use Rattle.rules.specs.Program.{mostOutput, obey, heed, program}
+use Rattle.text.specs.Promises.{Puts}
+use Rattle.line.specs.Promises.{PutsLine}
+use Rattle.command.specs.declared.Carried.{Carried}
+use Rattle.command.specs.declared.Output.{Output}
+
+-- The whole answer and the schedule afterwards are what the rule gives; and the schedule is good again.
+pub record Obeys (s : Schedule) (c : Command) (r : Obeyed) : Type 0 where
+  pub is : ofObeyed r ≡ obey s c
+  pub good : Good (r .schedule)
+
+-- A line is carried out: its words are put, and its schedule is left. They are at most four bytes for each of its own.
+pub record Carries (s : Schedule) (line entry : List ℕ) (at : ℕ) (exit : List ℕ) (r : Carried) : Type 0 where
+  pub prints : PutsLine entry at (heed s (says line) .words) exit (r .at)
+  pub leaves : r .schedule ≡ heed s (says line) .schedule
+  pub good : Good (r .schedule)
+  pub room : r .at ≤ at + 4 * (length line + 1)
+
+-- What the input prints is put at the buffer's start, and fits.
+pub record Prints (input entry exit : List ℕ) (n : ℕ) : Type 0 where
+  pub puts : Puts entry 0 (program input) exit n
+  pub fits : n ≤ mostOutput
+
+-- The command program: the count, and every byte. Nothing is cut, as the output fits.
+pub record Runs (input : List ℕ) (r : Output) : Type 0 where
+  pub count : r .count ≡ length (program input)
+  pub fits : r .count ≤ mostOutput
+  pub bytes : r .bytes ≡ program input ++ replicate (mostOutput - r .count) 0

@@ -1,0 +1,21 @@
+//! The command program, from the bytes of its input to those of its output.
+
+mod obeying;
+mod running;
+
+pub use obeying::obey;
+use rules::Schedule;
+pub use running::carry_out;
+pub use running::run;
+
+/// The schedule after a line, and the place after what it printed.
+pub struct Carried {
+    pub schedule: Schedule,
+    pub at: usize,
+}
+
+/// The bytes that an input prints, from the start, and how many they are.
+pub struct Output {
+    pub bytes: [u8; 16384],
+    pub count: usize,
+}

@@ -1,0 +1,61 @@
+//! The call that a command makes.
+ghost use Rattle.rules.specs.Good.{Good};
+ghost use Rattle.command.specs.Promises.{Obeys};
+use rules::Command;
+use rules::Obeyed;
+use rules::Reply;
+use rules::Schedule;
+use schedule::admit;
+use schedule::anchor;
+use schedule::drop;
+use schedule::owner;
+use schedule::report;
+
+/// Makes the call; a question leaves the schedule as it is.
+pub fn obey(s: Schedule, command: Command) -> Obeyed
+    requires { ⌜ Good s ⌝ }
+    ensures { λ r. ⌜ Obeys s command r ⌝ }
+{
+    match command {
+        Command::Admit {
+            handle,
+            interval,
+            floor,
+            ceiling,
+        } => {
+            let r = admit(s, handle, interval, floor, ceiling);
+            let answer = r.answer;
+            let schedule = r.schedule;
+            Obeyed {
+                reply: Reply::Admission(answer),
+                schedule,
+            }
+        }
+        Command::Drop(handle) => {
+            let r = drop(s, handle);
+            let answer = r.answer;
+            let schedule = r.schedule;
+            Obeyed {
+                reply: Reply::Dropping(answer),
+                schedule,
+            }
+        }
+        Command::Report { handle, sample } => {
+            let r = report(s, handle, sample);
+            let answer = r.answer;
+            let schedule = r.schedule;
+            Obeyed {
+                reply: Reply::Reporting(answer),
+                schedule,
+            }
+        }
+        Command::Owner(block) => {
+            let reply = Reply::Ownership(owner(s, block));
+            Obeyed { reply, schedule: s }
+        }
+        Command::Anchor { handle, block } => {
+            let reply = Reply::Distance(anchor(s, handle, block));
+            Obeyed { reply, schedule: s }
+        }
+    }
+}

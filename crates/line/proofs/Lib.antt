@@ -1,0 +1,3 @@
+-- The lines that are printed, and what a line says.
+pub mod Lines
+pub mod Spoken

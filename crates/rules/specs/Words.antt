@@ -1,0 +1,29 @@
+-- The line that each answer of the command program prints.
+use Prim.Native.Nat.{ℕ}
+use mathlib.Core.List.{List, [], _∷_, _++_}
+use Rattle.rules.specs.Text.{byte, text}
+use Rattle.rules.specs.Answers.{Answer, refused, ok, dropped, kept, grown, shrunk, tight, owner, idle, slots, saved, loaded}
+use Rattle.rules.specs.Decimal.{decimal}
+
+-- Numbers, "one space before each, decimal".
+unfoldable pub spaced : List ℕ → List ℕ
+unfolding decimal
+spaced [] = []
+spaced (n ∷ ns) = byte " " ∷ (decimal n ++ spaced ns)
+
+-- "`ok F A L`; `ok` for drop; `kept`, `grown`, `shrunk` or `tight` and L; `owner` and handle, or `idle`; `slots` and the
+-- number; `no` and the refusal number."
+unfoldable pub wordsOf : Answer → List ℕ
+unfolding spaced
+wordsOf (refused n) = text "no" ++ spaced (n ∷ [])
+wordsOf (ok F A L) = text "ok" ++ spaced (F ∷ A ∷ L ∷ [])
+wordsOf dropped = text "ok"
+wordsOf (kept L) = text "kept" ++ spaced (L ∷ [])
+wordsOf (grown L) = text "grown" ++ spaced (L ∷ [])
+wordsOf (shrunk L) = text "shrunk" ++ spaced (L ∷ [])
+wordsOf (tight L) = text "tight" ++ spaced (L ∷ [])
+wordsOf (owner h) = text "owner" ++ spaced (h ∷ [])
+wordsOf idle = text "idle"
+wordsOf (slots n) = text "slots" ++ spaced (n ∷ [])
+wordsOf (saved n) = text "saved" ++ spaced (n ∷ [])
+wordsOf (loaded n) = text "loaded" ++ spaced (n ∷ [])

@@ -1,0 +1,65 @@
+-- Bytes put one after the other.
+use mathlib.Core.Path.{_≡_, refl, sym, ap, _∙_}
+use mathlib.Core.List.{List, [], _∷_, _++_, append-nil}
+use Prim.Native.Nat.{ℕ, suc, _+_, _/_, _%_, _<_, _≤_}
+use native.Mathlib.Omega.{arith}
+use lib.ListN.{length, getD, take, set, length-append, length-take}
+use lib.Seq.{sets, length-sets, take-suc}
+use Rattle.rules.specs.Decimal.{decimal}
+use Rattle.rules.specs.Words.{spaced}
+use Rattle.rules.proofs.StoreLaws.{put-after}
+use Rattle.rules.proofs.DecimalLaws.{decimal-one, decimal-more}
+use Rattle.text.specs.Promises.{Puts}
+
+-- What is put second, from where the first ends on.
+pub puts-after : {l b c : List ℕ} {start i j : ℕ} {xs ys : List ℕ} → Puts l start xs b i → Puts b i ys c j → Puts l start (xs ++ ys) c j
+puts-after {l} {b} {c} {start} {i} {j} {xs} {ys} p q = record {
+  stored = put-after l b c start i xs ys (p .stored) (q .stored) (p .ends);
+  ends = omega (arith, p .ends, q .ends, length-append xs ys);
+}
+
+-- One byte.
+pub puts-byte : (l : List ℕ) (start b : ℕ) → Puts l start (b ∷ []) (set l start b) (start + 1)
+puts-byte l start b = record { stored = refl; ends = refl }
+
+-- Nothing.
+pub puts-nothing : (l : List ℕ) (start : ℕ) → Puts l start [] l start
+puts-nothing l start = record { stored = refl; ends = omega arith }
+
+pub puts-length : {l b : List ℕ} {start i : ℕ} {xs : List ℕ} → Puts l start xs b i → length b ≡ length l
+puts-length {l} {b} {start} {i} {xs} p = ap (λ (x : List ℕ). length x) (p .stored) ∙ length-sets l start xs
+
+-- One more byte of a word.
+pub word-turn : (l b word : List ℕ) (start i : ℕ) → i < length word → Puts l start (take i word) b (start + i)
+    → Puts l start (take (i + 1) word) (set b (start + i) (getD word i 0)) (start + (i + 1))
+word-turn l b word start i h p =
+    let e : i + 1 ≡ suc i = omega arith in
+    let f : start + i + 1 ≡ start + suc i = omega arith in
+    rw (e, take-suc word i 0 h, ← f) (puts-after p (puts-byte b (start + i) (getD word i 0)))
+
+-- ---- a number
+-- One digit,
+pub digits-one : (n : ℕ) → n < 10 → length (decimal n) ≡ 1
+digits-one n h = ap (λ (x : List ℕ). length x) (decimal-one n h)
+
+-- or one more than a tenth of it has.
+pub digits-more : (n : ℕ) → 10 ≤ n → length (decimal n) ≡ length (decimal (n / 10)) + 1
+digits-more n h = ap (λ (x : List ℕ). length x) (decimal-more n h) ∙ length-append (decimal (n / 10)) ((48 + n % 10) ∷ [])
+
+pub puts-one : (l : List ℕ) (start n : ℕ) → n < 10 → Puts l start (decimal n) (set l start (48 + n)) (start + 1)
+puts-one l start n h = rw (decimal-one n h) (puts-byte l start (48 + n))
+
+pub puts-more : (l b : List ℕ) (start n next : ℕ) → 10 ≤ n → Puts l start (decimal (n / 10)) b next
+    → Puts l start (decimal n) (set b next (48 + n % 10)) (next + 1)
+puts-more l b start n next h p = rw (decimal-more n h) (puts-after p (puts-byte b next (48 + n % 10)))
+
+-- A space before it.
+pub spaced-one : (n : ℕ) → spaced (n ∷ []) ≡ 32 ∷ decimal n
+unfolding spaced
+spaced-one n = ap {B = List ℕ} (λ l. 32 ∷ l) (append-nil (decimal n))
+
+pub puts-spaced : (l b : List ℕ) (start n next : ℕ) → Puts (set l start 32) (start + 1) (decimal n) b next → Puts l start (spaced (n ∷ [])) b next
+puts-spaced l b start n next p = rw (spaced-one n) (puts-after (puts-byte l start 32) p)
+
+pub spaced-length : (n : ℕ) → length (spaced (n ∷ [])) ≡ length (decimal n) + 1
+spaced-length n = ap (λ (x : List ℕ). length x) (spaced-one n) ∙ omega arith

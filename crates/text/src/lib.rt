@@ -1,0 +1,17 @@
+//! A text: places, words and decimal numbers in it, read and written.
+
+mod reading;
+mod writing;
+
+pub use reading::find;
+pub use reading::numbers_from;
+pub use reading::opens;
+pub use writing::put_number;
+pub use writing::put_word;
+pub use writing::refusal_number;
+
+/// The numbers of a command, if they are right.
+pub struct Numbers {
+    pub right: bool,
+    pub values: [u32; 4],
+}

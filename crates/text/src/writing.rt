@@ -1,0 +1,64 @@
+//! Words and numbers, written at a place; each answers the place after it.
+ghost use Prim.Native.Nat.{_+_, _≤_};
+ghost use mathlib.Core.List.{[], _∷_};
+ghost use lib.ListN.{length};
+ghost use mathlib.Core.Path.{_≡_};
+ghost use Rattle.rules.specs.Refusals.{number};
+ghost use Rattle.rules.specs.Decimal.{decimal};
+ghost use Rattle.rules.specs.Words.{spaced};
+ghost use Rattle.text.specs.Promises.{Puts};
+use rules::Refusal;
+
+/// Words as they are.
+pub fn put_word(out: &mut [u8], at: usize, word: &[u8]) -> usize
+    requires { ⌜ at + length (now word) ≤ length (now out) ⌝ }
+    ensures { λ r. ⌜ Puts (now (out .entry)) at (now (word .entry)) (now (out .exit)) r ⌝ }
+{
+    for i in 0..word.len() {
+        out[at + i] = word[i];
+    }
+    at + word.len()
+}
+
+// The digits of a number: those of a tenth of it, then the last.
+fn put_decimal(out: &mut [u8], at: usize, n: u32) -> usize
+    requires { ⌜ at + length (decimal n) ≤ length (now out) ⌝ }
+    ensures { λ r. ⌜ Puts (now (out .entry)) at (decimal n) (now (out .exit)) r ⌝ }
+{
+    if n < 10 {
+        out[at] = b'0' + n as u8;
+        return at + 1;
+    }
+    let next = put_decimal(out, at, n / 10);
+    out[next] = b'0' + (n % 10) as u8;
+    next + 1
+}
+
+/// A space and a number.
+pub fn put_number(out: &mut [u8], at: usize, n: u32) -> usize
+    requires { ⌜ at + length (spaced (n ∷ [])) ≤ length (now out) ⌝ }
+    ensures { λ r. ⌜ Puts (now (out .entry)) at (spaced (n ∷ [])) (now (out .exit)) r ⌝ }
+{
+    out[at] = b' ';
+    put_decimal(out, at + 1, n)
+}
+
+/// The table's number of a refusal.
+pub fn refusal_number(r: Refusal) -> u32
+    ensures { λ n. ⌜ n ≡ number r ⌝ }
+{
+    match r {
+        Refusal::HandleAbove63 => 1,
+        Refusal::HandleLive => 2,
+        Refusal::HandleNotLive => 3,
+        Refusal::IntervalOutside => 4,
+        Refusal::ShareWrong => 5,
+        Refusal::NoOpenAnchor => 6,
+        Refusal::SampleAboveRun => 7,
+        Refusal::BufferShort => 8,
+        Refusal::RecordsWrong => 9,
+        Refusal::NumbersUnsound => 10,
+        Refusal::BlockOwnedTwice => 11,
+        Refusal::TreeDiffers => 12,
+    }
+}
