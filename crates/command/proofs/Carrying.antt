@@ -1,5 +1,5 @@
 -- A line carried out.
-use mathlib.Core.Path.{_≡_, refl, sym, subst, subst⁻¹, ap, _∙_}
+use mathlib.Core.Path.{_≡_, refl, sym, subst, ap, _∙_}
 use mathlib.Core.List.{List}
 use Prim.Native.Nat.{ℕ, _+_, _*_, _≤_}
 use native.Mathlib.Omega.{arith}
@@ -10,14 +10,13 @@ use Rattle.rules.specs.declared.Line.{Line}
 use Rattle.rules.specs.declared.Line.the-variants.{Says, Bad}
 use Rattle.rules.specs.declared.Obeyed.{Obeyed}
 use Rattle.rules.specs.Good.{Good}
-use Rattle.rules.specs.Answers.{ofReply, ofObeyed}
+use Rattle.rules.specs.Answers.{ofReply}
 use Rattle.rules.specs.Text.{text}
 use Rattle.rules.specs.Words.{wordsOf}
-use Rattle.rules.specs.Commands.{lineOf, says}
-use Rattle.rules.specs.Program.{Printed, heed, obey}
+use Rattle.rules.specs.Commands.{says}
+use Rattle.rules.specs.Program.{Printed, heed}
 use Rattle.rules.proofs.CommandLaws.{says-only, line-length}
 use Rattle.text.specs.Promises.{Puts}
-use Rattle.command.specs.declared.Carried.{Carried}
 use Rattle.command.specs.Promises.{Obeys, Carries}
 use Rattle.line.specs.Promises.{PutsLine, PutsAnswer}
 

@@ -17,7 +17,6 @@ use Rattle.rules.proofs.ProgramLaws.{answered-line, answered-tail, answered-not
 use Rattle.text.specs.Promises.{Puts}
 use Rattle.text.proofs.Putting.{puts-after}
 use Rattle.command.specs.declared.Carried.{Carried}
-use Rattle.command.specs.declared.Output.{Output}
 use Rattle.command.specs.Promises.{Carries, Prints, Runs}
 
 drop-replicate : (k n a : ℕ) → drop k (replicate n a) ≡ replicate (n - k) a

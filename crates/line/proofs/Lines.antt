@@ -10,7 +10,7 @@ use Rattle.rules.specs.Text.{byte, text}
 use Rattle.rules.specs.Words.{spaced, wordsOf}
 use Rattle.rules.proofs.DecimalLaws.{decimal-length}
 use Rattle.text.specs.Promises.{Puts}
-use Rattle.text.proofs.Putting.{puts-after, puts-length, spaced-length}
+use Rattle.text.proofs.Putting.{puts-after, spaced-length}
 use Rattle.line.specs.Promises.{PutsLine, PutsAnswer}
 
 -- Equal answers have the same line.

@@ -10,13 +10,12 @@ use lib.ListN.{length, getD, take, drop, length-take, take-append-drop}
 use lib.Seq.{take-at, drop-at, getD-take}
 use Rattle.rules.specs.declared.Command.{Command}
 use Rattle.rules.specs.declared.Command.the-variants.{Admit, Drop, Report, Owner, Anchor}
-use Rattle.rules.specs.declared.Line.{Line}
 use Rattle.rules.specs.declared.Line.the-variants.{Says, Bad}
 use Rattle.rules.specs.Below.{tabulate}
 use Rattle.rules.specs.Bytes.{same}
 use Rattle.rules.specs.Text.{text}
 use Rattle.rules.specs.Words.{spaced}
-use Rattle.rules.specs.Commands.{wordOf, numbersOf, lineOf, allFit, says}
+use Rattle.rules.specs.Commands.{wordOf, numbersOf, lineOf, says}
 use Rattle.rules.specs.LineSteps.{numbersIn}
 use Rattle.rules.proofs.BytesLaws.{same-exactly}
 use Rattle.rules.proofs.CommandLaws.{says-line, says-bad, numbers-spaced, numbers-only}

@@ -1,6 +1,5 @@
 //! What a line says.
 ghost use mathlib.Core.Path.{_≡_};
-ghost use mathlib.Core.Bool.{cond};
 ghost use Rattle.rules.specs.Commands.{says as saysRule};
 ghost use Rattle.line.specs.Promises.{saysIf};
 use rules::Command;

@@ -1,15 +1,14 @@
 -- The search for an open anchor, over the row of a depth.
-use mathlib.Core.Path.{_≡_, refl, sym, ap, _∙_}
+use mathlib.Core.Path.{_≡_, sym, ap, _∙_}
 use mathlib.Core.Bool.{Bool, true, false, not, false≢true}
 use mathlib.Core.Logic.{_≢_, by-cases}
 use mathlib.Core.List.{List}
-use mathlib.Core.Option.{some, none}
 use Prim.Native.Nat.{ℕ, _+_, _%_, _^_, _<_, _≤_}
 use native.Mathlib.Nat.{mod-lt}
 use native.Mathlib.Decide.{ℕ-discrete}
 use native.Mathlib.Omega.{arith}
 use lib.Pow.{pow-pos, pow-mono}
-use lib.ListN.{length, getD, set, length-set}
+use lib.ListN.{getD, set, length-set}
 use lib.Seq.{getD-set-same, getD-set-other}
 use Rattle.rules.specs.Classes.{free, runFree}
 use Rattle.rules.specs.Mirror.{mirrored}
@@ -19,7 +18,7 @@ use Rattle.rules.specs.Steps.{gives, refuses, placeStep}
 use Rattle.rules.proofs.BoolLaws.{is-false}
 use Rattle.rules.proofs.BelowLaws.{every-at, every-of, least-is, least-is-none}
 use Rattle.rules.proofs.MirrorLaws.{mirror-lt, mirror-mirror}
-use Rattle.place.specs.Promises.{Long, Anchors, Row, Reads}
+use Rattle.place.specs.Promises.{Long, Row, Reads}
 
 -- No class of the run at A is taken, up to its block n; and some class is.
 abbrev pub Clear : ℕ → List Bool → ℕ → ℕ → Type 0

@@ -1,36 +1,33 @@
 -- What an admission means.
-use mathlib.Core.Path.{_≡_, refl, sym, ap, ap₂, _∙_, subst}
-use mathlib.Core.Bool.{Bool, true, false, not, _||_, _&&_, false≢true}
+use mathlib.Core.Path.{_≡_, refl, sym, ap, _∙_}
+use mathlib.Core.Bool.{Bool, true, false, _||_, false≢true}
 use mathlib.Core.Logic.{_≢_, by-cases, _↔_}
-use mathlib.Core.List.{List, [], _∷_}
+use mathlib.Core.List.{List}
 use mathlib.Core.Option.{Option, none, some, Option·getD}
 use Prim.Native.Nat.{ℕ, suc, _+_, _-_, _*_, _%_, _^_, _<_, _≤_}
-use native.Mathlib.Nat.{mod-lt, pow-suc}
-use native.Mathlib.Decide.{ℕ-discrete, decLe}
+use native.Mathlib.Nat.{mod-lt}
+use native.Mathlib.Decide.{decLe}
 use native.Mathlib.Omega.{arith}
-use lib.Pow.{pow-pos, pow-mono, pow-lt}
+use lib.Pow.{pow-pos, pow-mono}
 use lib.Dec.{leb, ltb, eqb}
-use lib.ListN.{set}
-use borrow.Author.Tests.{le-leb, lt-leb, leb-true, leb-false, lt-ltb, le-ltb, ltb-true, ltb-false, eq-eqb, ne-eqb, eqb-true, eqb-false, not-false}
+use borrow.Author.Tests.{le-leb, lt-leb, leb-true, le-ltb, ltb-true, ltb-false, ne-eqb, eqb-false, not-false}
 use Rattle.rules.specs.declared.Connection.{Connection}
 use Rattle.rules.specs.declared.Schedule.{Schedule}
-use Rattle.rules.specs.Below.{largest, least}
 use Rattle.rules.specs.Time.{minusMod}
 use Rattle.rules.specs.Core.{isInterval}
-use Rattle.rules.specs.Ownership.{largestK, nobody, at, belongs, owns, taken}
-use Rattle.rules.specs.Classes.{depth, free, runFree}
+use Rattle.rules.specs.Ownership.{largestK, at, belongs, owns, taken}
+use Rattle.rules.specs.Classes.{depth, runFree}
 use Rattle.rules.specs.Mirror.{mirrored}
 use Rattle.rules.specs.Sound.{sound}
-use Rattle.rules.specs.Good.{Good, FreeSlotsZero, scheduleOf}
-use Rattle.rules.specs.Refusals.{decided}
+use Rattle.rules.specs.Good.{Good, FreeSlotsZero}
 use Rattle.rules.specs.Answers.{Outcome, refusing, ok}
 use Rattle.rules.specs.Handles.{isLive, connection}
-use Rattle.rules.specs.Admit.{intervalOutside, kOf, shareWrong, isOpen, firstOpen, noOpenAnchor, newConnection, admitChecks, anchorFor, admitDone, admit}
+use Rattle.rules.specs.Admit.{kOf, shareWrong, isOpen, firstOpen, noOpenAnchor, newConnection, admitChecks, anchorFor, admitDone, admit}
 use Rattle.rules.proofs.BoolLaws.{both, is-false}
 use Rattle.rules.proofs.BelowLaws.{every-at, every-of, largest-is-largest, largest-unique, least-some, least-none, least-is-none}
-use Rattle.rules.proofs.EndlessTime.{minusMod-lt, minusMod-back}
+use Rattle.rules.proofs.EndlessTime.{minusMod-back}
 use Rattle.rules.proofs.MirrorLaws.{mirror-lt, mirror-mirror}
-use Rattle.rules.proofs.SoundLaws.{Numbers, class-free-ever, taken-of}
+use Rattle.rules.proofs.SoundLaws.{Numbers, class-free-ever}
 use Rattle.rules.proofs.ScheduleLaws.{others, others-at, set-good, set-zero, set-other, set-same, inside}
 use Rattle.rules.proofs.RefusalLaws.{decided-cases}
 

@@ -2,17 +2,17 @@
 use mathlib.Core.Path.{_≡_, refl, sym, ap, ap₂, _∙_}
 use mathlib.Core.Bool.{Bool, true, false, _||_, not, or-false, or-true, false≢true}
 use mathlib.Core.Logic.{_≢_, by-cases, _↔_}
-use Prim.Native.Nat.{ℕ, zero, suc, _+_, _-_, _*_, _/_, _%_, _^_, _<_, _≤_}
-use native.Mathlib.Nat.{mod-lt, mod-eq-of-lt, add-mul-mod-self-right, div-add-mod', pow-suc}
+use Prim.Native.Nat.{ℕ, suc, _+_, _-_, _*_, _/_, _%_, _^_, _<_, _≤_}
+use native.Mathlib.Nat.{mod-eq-of-lt, add-mul-mod-self-right, div-add-mod', pow-suc}
 use native.Mathlib.Decide.{ℕ-discrete}
 use native.Mathlib.Omega.{arith}
-use lib.Pow.{pow-pos, pow-add, mod-mod-pow, shr-lt}
+use lib.Pow.{pow-add, mod-mod-pow, shr-lt}
 use lib.Arith.{digits-lt}
 use Rattle.rules.specs.Below.{any}
 use Rattle.rules.specs.Time.{listBlocks}
 use Rattle.rules.specs.Classes.{depth, periods, classTaken, free}
 use Rattle.rules.proofs.BoolLaws.{bool-iff, is-false}
-use Rattle.rules.proofs.BelowLaws.{any-of, any-at, any-ext, any-none}
+use Rattle.rules.proofs.BelowLaws.{any-of, any-at, any-ext}
 
 -- What is taken repeats with the list.
 abbrev pub Periodic : (ℕ → Bool) → Type 0

@@ -1,21 +1,19 @@
 -- What a drop means.
-use mathlib.Core.Path.{_≡_, refl, sym, ap, _∙_, subst}
-use mathlib.Core.Bool.{Bool, true, false, not, false≢true}
+use mathlib.Core.Path.{_≡_, refl, sym, _∙_}
+use mathlib.Core.Bool.{true, false, false≢true}
 use mathlib.Core.Logic.{_≢_, _↔_}
-use mathlib.Core.List.{List}
 use Prim.Native.Nat.{ℕ, _+_, _^_, _<_, _≤_}
 use native.Mathlib.Omega.{arith}
 use lib.Pow.{pow-mono}
 use lib.ListN.{set}
 use borrow.Author.Tests.{lt-ltb, le-ltb, ltb-false, not-false}
-use Rattle.rules.specs.declared.Connection.{Connection}
 use Rattle.rules.specs.declared.Schedule.{Schedule}
 use Rattle.rules.specs.Ownership.{nobody, owns, taken}
 use Rattle.rules.specs.Classes.{depth}
 use Rattle.rules.specs.Nodes.{covers}
 use Rattle.rules.specs.TreeBytes.{bitAt}
 use Rattle.rules.specs.Good.{Good, FreeSlotsZero, treeFor, scheduleOf}
-use Rattle.rules.specs.Answers.{Outcome, refused, dropped, refusing}
+use Rattle.rules.specs.Answers.{Outcome, dropped, refusing}
 use Rattle.rules.specs.Handles.{isLive, connection}
 use Rattle.rules.specs.Drop.{dropChecks, dropDone, drop}
 use Rattle.rules.proofs.RefusalLaws.{decided-cases}

@@ -1,15 +1,14 @@
 -- Ownership over endless time: what the Core Specification's events say, and that the list of 512 blocks says it all.
-use mathlib.Core.Path.{_≡_, refl, sym, ap, ap₂, _∙_, subst}
-use mathlib.Core.Bool.{Bool, true, false, _||_, _&&_, not, false≢true}
-use mathlib.Core.Logic.{_≢_, by-cases, _↔_}
-use mathlib.Core.List.{List, [], _∷_}
+use mathlib.Core.Path.{_≡_, sym, ap, _∙_}
+use mathlib.Core.Bool.{true}
+use mathlib.Core.Logic.{by-cases, _↔_}
 use Prim.Native.Nat.{ℕ, zero, suc, _+_, _-_, _*_, _/_, _%_, _^_, _<_, _≤_}
-use native.Mathlib.Nat.{mod-lt, mod-le, mod-mod, mod-eq-of-lt, mod-add-mod, add-mod-mod, add-mod-right, add-comm, mul-add-mod-self-right, add-mul-mod-self-right, div-add-mod', mul-comm, mul-sub}
-use native.Mathlib.Decide.{ℕ-discrete, decLe}
+use native.Mathlib.Nat.{mod-lt, mod-le, mod-eq-of-lt, mod-add-mod, add-mod-mod, add-mod-right, mul-add-mod-self-right, div-add-mod', mul-comm, mul-sub}
+use native.Mathlib.Decide.{decLe}
 use native.Mathlib.Omega.{arith}
-use lib.Pow.{pow-pos, mod-mod-pow, shr-lt}
-use lib.Dec.{eqb, ltb}
-use lib.IntN.{ℤ, pos, negsuc, negℤ, _+ℤ_, _-ℤ_, _*ℤ_, -ℤ-+ℤ-cancel, +ℤ-negℤ-cancel, pos-+ℤ-pos, pos-*ℤ-pos, negsuc-*ℤ-pos, +ℤ-assoc, +ℤ-comm, +ℤ-invl, +ℤ-invr, +ℤ-idl}
+use lib.Pow.{pow-pos, mod-mod-pow}
+use lib.Dec.{ltb}
+use lib.IntN.{ℤ, pos, negsuc, negℤ, _+ℤ_, _-ℤ_, _*ℤ_, -ℤ-+ℤ-cancel, +ℤ-negℤ-cancel, pos-+ℤ-pos, pos-*ℤ-pos, negsuc-*ℤ-pos, +ℤ-assoc, +ℤ-invl, +ℤ-invr, +ℤ-idl}
 use borrow.Author.Tests.{lt-ltb, ltb-true}
 use Rattle.rules.specs.declared.Connection.{Connection}
 use Rattle.rules.specs.Time.{listBlocks, minusMod}

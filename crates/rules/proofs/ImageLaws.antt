@@ -532,10 +532,10 @@ image-unique cs ds l m e f q =
     ∙ (ap connectionsOf (read ds m f) ∙ read-connections ds m f)
 
 -- ---- what is accepted is the image of a schedule
-record Restores (bytes : List ℕ) (cs : List Connection) : Type 0 where
-  long : length cs ≡ handles
-  isSound : sound cs ≡ true
-  saved : image cs ≡ bytes
+pub record Restores (bytes : List ℕ) (cs : List Connection) : Type 0 where
+  pub long : length cs ≡ handles
+  pub isSound : sound cs ≡ true
+  pub saved : image cs ≡ bytes
 
 restores-parts : (bytes : List ℕ) (first : Piece) (each : List Piece) (last : Piece)
     → kindOf first ≡ 1 → sizeOf first ≡ 2 → littleNumber (first .payload) ≡ length each → Each IsConnection each → kindOf last ≡ 3
@@ -569,7 +569,7 @@ accepted-restores bytes rs b a =
     b a
 
 -- A load is refused, or its bytes are the image of the sound connections that it gives.
-load-cases {ℓ} : (s : Schedule) (bytes : List ℕ) → AllBytes bytes → (P : Outcome → Type ℓ) → ((n : ℕ) → P (refusing s n))
+pub load-cases {ℓ} : (s : Schedule) (bytes : List ℕ) → AllBytes bytes → (P : Outcome → Type ℓ) → ((n : ℕ) → P (refusing s n))
     → ((cs : List Connection) (n : ℕ) → Restores bytes cs → P (record { answer = loaded n; schedule = scheduleOf cs })) → P (load s bytes)
 unfolding load loadDone
 load-cases s bytes b P f g =

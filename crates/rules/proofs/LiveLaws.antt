@@ -1,16 +1,15 @@
 -- Which handles are live after a call.
 use mathlib.Core.Path.{_≡_, refl, sym, ap, _∙_}
-use mathlib.Core.Bool.{Bool, true, false}
+use mathlib.Core.Bool.{true, false}
 use mathlib.Core.Logic.{_≢_, by-cases}
 use Prim.Native.Nat.{ℕ}
 use native.Mathlib.Decide.{ℕ-discrete}
-use native.Mathlib.Omega.{arith}
 use Rattle.rules.specs.declared.Connection.{Connection}
 use Rattle.rules.specs.declared.Schedule.{Schedule}
 use Rattle.rules.specs.Good.{Good}
-use Rattle.rules.specs.Answers.{Outcome, refused, ok, dropped}
+use Rattle.rules.specs.Answers.{ok, dropped}
 use Rattle.rules.specs.Handles.{connection, isLive}
-use Rattle.rules.specs.Admit.{newConnection, admit}
+use Rattle.rules.specs.Admit.{admit}
 use Rattle.rules.specs.Drop.{drop}
 use Rattle.rules.specs.Report.{reportDone, report}
 use Rattle.rules.proofs.AdmitLaws.{admit-others, admit-stored}

@@ -1,5 +1,5 @@
 -- The laws of the mirrored order.
-use mathlib.Core.Path.{_≡_, refl, sym, ap, _∙_}
+use mathlib.Core.Path.{_≡_, ap, _∙_}
 use Prim.Native.Nat.{ℕ, zero, suc, _+_, _*_, _/_, _%_, _^_, _<_}
 use native.Mathlib.Nat.{pow-suc, add-zero, add-suc, div-one, mod-eq-of-lt, div-div-eq-div-mul, mul-add-mod-self-right}
 use native.Mathlib.Omega.{arith}

@@ -1,8 +1,8 @@
 -- An admission as a plan that is carried out.
-use mathlib.Core.Path.{_≡_, refl, sym, ap, _∙_}
+use mathlib.Core.Path.{_≡_, refl, sym, ap}
 use mathlib.Core.Bool.{Bool, true, false}
 use mathlib.Core.List.{[], _∷_}
-use mathlib.Core.Option.{Option, none, some, Option·getD}
+use mathlib.Core.Option.{Option·getD}
 use Prim.Native.Nat.{ℕ, _^_, _<_, _≤_}
 use native.Mathlib.Omega.{arith}
 use lib.ListN.{set}
@@ -11,7 +11,7 @@ use Rattle.rules.specs.declared.Schedule.{Schedule}
 use Rattle.rules.specs.Ownership.{taken}
 use Rattle.rules.specs.Mirror.{mirrored}
 use Rattle.rules.specs.Good.{scheduleOf}
-use Rattle.rules.specs.Refusals.{check, decided}
+use Rattle.rules.specs.Refusals.{check}
 use Rattle.rules.specs.Answers.{Outcome, refusing, ok}
 use Rattle.rules.specs.Handles.{isLive}
 use Rattle.rules.specs.Admit.{intervalOutside, kOf, shareWrong, firstOpen, noOpenAnchor, newConnection, admitChecks, anchorFor, admitDone, admit}

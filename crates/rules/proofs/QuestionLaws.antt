@@ -1,10 +1,10 @@
 -- What the two questions mean: whose block it is, and how far the next anchor is.
 use mathlib.Core.Path.{_≡_, refl, sym, ap, _∙_}
-use mathlib.Core.Bool.{Bool, true, false, not, false≢true}
+use mathlib.Core.Bool.{true, false, not, false≢true}
 use mathlib.Core.Logic.{by-cases, _↔_}
 use mathlib.Core.List.{[], _∷_}
 use mathlib.Core.Option.{Option, none, some}
-use Prim.Native.Nat.{ℕ, _+_, _*_, _%_, _^_, _<_, _≤_}
+use Prim.Native.Nat.{ℕ, _+_, _*_, _%_, _<_, _≤_}
 use native.Mathlib.Nat.{mod-lt, mod-le, add-mod-mod}
 use native.Mathlib.Decide.{decLe}
 use native.Mathlib.Omega.{arith}
@@ -19,7 +19,7 @@ use Rattle.rules.specs.Time.{minusMod}
 use Rattle.rules.specs.Ownership.{handles, nobody, factor, owns}
 use Rattle.rules.specs.Good.{Good}
 use Rattle.rules.specs.Refusals.{check}
-use Rattle.rules.specs.Answers.{Answer, refused, owner, idle, slots}
+use Rattle.rules.specs.Answers.{refused, owner, idle, slots}
 use Rattle.rules.specs.Handles.{connection, isLive, notLive}
 use Rattle.rules.specs.Owner.{ownerOr, ownerOf}
 use Rattle.rules.specs.Anchor.{slotsToAnchor, anchor}

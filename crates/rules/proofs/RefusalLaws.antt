@@ -1,10 +1,9 @@
 -- The laws of a call's checks.
-use mathlib.Core.Path.{_≡_, refl, sym, ap, _∙_, subst}
+use mathlib.Core.Path.{_≡_, refl, sym, ap, _∙_}
 use mathlib.Core.Bool.{Bool, true, false, cond, false≢true}
 use mathlib.Core.List.{List, [], _∷_}
 use mathlib.Core.Logic.{_↔_, _⊎_, inl, inr, ⊎-elim}
 use Prim.Native.Nat.{ℕ}
-use native.Mathlib.Omega.{arith}
 use Rattle.rules.specs.declared.Schedule.{Schedule}
 use Rattle.rules.specs.Refusals.{Check, check, decided}
 use Rattle.rules.specs.Answers.{Answer, Outcome, refused, refusing}
@@ -57,12 +56,28 @@ pub refusal-keeps : (cs : List Check) (s : Schedule) (done : Outcome) → ((n : 
 refusal-keeps cs s done never n =
     decided-cases (λ o. o .answer ≡ refused n → o .schedule ≡ s) cs (refusing s) done (λ m e. refl) (λ p e. absurd (never n e))
 
+-- So it is of the number of each check.
+abbrev pub Numbered : (ℕ → Type 0) → List Check → Type 0
+Numbered Q [] = Unit {0}
+Numbered Q (c ∷ cs) = Q (c .number) × Numbered Q cs
+
+-- A refusal's number is that of one of the checks.
+pub decided-numbered {ℓ κ} : {A : Type ℓ} (P : A → Type κ) (Q : ℕ → Type 0) (cs : List Check) (refuse : ℕ → A) (done : A)
+    → Numbered Q cs → ((n : ℕ) → Q n → P (refuse n)) → P done → P (decided cs refuse done)
+unfolding decided
+decided-numbered P Q [] refuse done q f p = p
+decided-numbered P Q (c ∷ cs) refuse done q f p = go (c .refuses) (decided-numbered P Q cs refuse done (q .1) f p)
+  where
+    go : (v : Bool) → P (decided cs refuse done) → P (cond v (refuse (c .number)) (decided cs refuse done))
+    go true later = f (c .number) (q .0)
+    go false later = later
+
 -- The number that the first refusing check gives.
 abbrev pub FirstRefusal : List Check → ℕ → Type 0
 FirstRefusal [] n = ⊥
 FirstRefusal (c ∷ cs) n = ((c .refuses ≡ true) × (c .number ≡ n)) ⊎ ((c .refuses ≡ false) × FirstRefusal cs n)
 
-refused-same : {m n : ℕ} → refused m ≡ refused n → m ≡ n
+pub refused-same : {m n : ℕ} → refused m ≡ refused n → m ≡ n
 refused-same e = cc
 
 -- A call is refused with n exactly if the first of its checks that refuses has the number n.

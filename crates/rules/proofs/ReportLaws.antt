@@ -1,30 +1,29 @@
 -- What a report means.
-use mathlib.Core.Path.{_≡_, refl, sym, ap, _∙_, subst}
+use mathlib.Core.Path.{_≡_, refl, sym, ap, _∙_}
 use mathlib.Core.Bool.{Bool, true, false, not, _&&_, false≢true}
 use mathlib.Core.Logic.{_≢_, by-cases, _↔_}
-use mathlib.Core.List.{List, [], _∷_}
-use Prim.Native.Nat.{ℕ, _+_, _-_, _*_, _%_, _^_, _<_, _≤_}
+use mathlib.Core.List.{[], _∷_}
+use Prim.Native.Nat.{ℕ, _+_, _-_, _*_, _%_, _<_, _≤_}
 use native.Mathlib.Nat.{mod-lt}
 use native.Mathlib.Decide.{ℕ-discrete}
 use native.Mathlib.Omega.{arith}
 use lib.Pow.{pow-pos}
 use lib.Dec.{ltb}
-use lib.ListN.{set}
 use borrow.Author.Tests.{lt-ltb, le-ltb, ltb-true, ltb-false, not-false}
 use Rattle.rules.specs.declared.Connection.{Connection}
 use Rattle.rules.specs.declared.Schedule.{Schedule}
 use Rattle.rules.specs.Time.{blockMicros, minusMod}
 use Rattle.rules.specs.Ownership.{factor, at, belongs, owns, taken}
-use Rattle.rules.specs.Classes.{depth, free}
-use Rattle.rules.specs.Good.{Good, FreeSlotsZero, scheduleOf}
-use Rattle.rules.specs.Answers.{Answer, Outcome, refusing, kept, grown, shrunk, tight, lengthIn}
+use Rattle.rules.specs.Classes.{depth}
+use Rattle.rules.specs.Good.{Good, FreeSlotsZero}
+use Rattle.rules.specs.Answers.{Outcome, refusing, grown, lengthIn}
 use Rattle.rules.specs.Handles.{connection, isLive, notLive}
 use Rattle.rules.specs.Refusals.{check, decided}
 use Rattle.rules.specs.Meter.{moved, need, target, change}
 use Rattle.rules.specs.Report.{sampleAbove, roomToGrow, metered, reportChecks, reportAnswer, reportDone, report}
 use Rattle.rules.proofs.BoolLaws.{both, is-false}
 use Rattle.rules.proofs.EndlessTime.{minusMod-back}
-use Rattle.rules.proofs.SoundLaws.{Numbers, owns-parts, class-free-ever}
+use Rattle.rules.proofs.SoundLaws.{Numbers, class-free-ever}
 use Rattle.rules.proofs.ScheduleLaws.{others, others-at, others-apart, inside, good-sound, set-good, set-zero, set-other, set-same}
 use Rattle.rules.proofs.MeterLaws.{moved-most, need-holds, target-bounds, target-enough, target-next, change-grown, change-cases}
 use Rattle.rules.proofs.RefusalLaws.{decided-cases, decided-stop, decided-skip, decided-passed}

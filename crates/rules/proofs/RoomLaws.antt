@@ -1,18 +1,17 @@
 -- "A new connection is refused for room exactly when no anchor exists whose whole run is free."
 use mathlib.Core.Path.{_≡_, refl, sym, ap, _∙_}
-use mathlib.Core.Bool.{Bool, true, false, not, false≢true}
+use mathlib.Core.Bool.{true, false, not, false≢true}
 use mathlib.Core.Logic.{_↔_, inl, inr, ⊎-elim}
 use mathlib.Core.Option.{Option, none, some}
 use Prim.Native.Nat.{ℕ, _^_, _<_, _≤_}
 use native.Mathlib.Omega.{arith}
-use lib.Dec.{ltb}
 use borrow.Author.Tests.{le-ltb, ltb-false, not-false}
 use Rattle.rules.specs.declared.Schedule.{Schedule}
 use Rattle.rules.specs.Core.{isInterval}
 use Rattle.rules.specs.Ownership.{taken}
 use Rattle.rules.specs.Mirror.{mirrored}
 use Rattle.rules.specs.Good.{Good}
-use Rattle.rules.specs.Answers.{refused, ok}
+use Rattle.rules.specs.Answers.{refused}
 use Rattle.rules.specs.Handles.{isLive}
 use Rattle.rules.specs.Admit.{kOf, shareWrong, isOpen, firstOpen, noOpenAnchor, admitChecks, anchorFor, admitDone, admit}
 use Rattle.rules.proofs.BoolLaws.{is-false}

@@ -1,13 +1,13 @@
 -- What is saved comes back: the image of a good schedule, loaded over whatever schedule.
 use mathlib.Core.Path.{_≡_, refl, sym, ap, _∙_}
-use mathlib.Core.Bool.{Bool, true, false, cond}
+use mathlib.Core.Bool.{Bool, true, cond}
 use mathlib.Core.List.{List, [], _∷_}
 use Prim.Native.Nat.{ℕ, zero, suc}
 use Rattle.rules.specs.declared.Connection.{Connection}
 use Rattle.rules.specs.declared.Schedule.{Schedule}
 use Rattle.rules.specs.Ownership.{handles, nobody, at, owns}
 use Rattle.rules.specs.Handles.{connection}
-use Rattle.rules.specs.Good.{Good, FreeSlotsZero, treeFor, scheduleOf}
+use Rattle.rules.specs.Good.{Good, FreeSlotsZero, scheduleOf}
 use Rattle.rules.specs.Owner.{ownerOr, ownerOf}
 use Rattle.rules.specs.Answers.{Outcome, loaded}
 use Rattle.rules.specs.Image.{image}

@@ -11,7 +11,7 @@ use lib.Seq.{sets, sets-eq, take-suc}
 use borrow.Author.Tests.{lt-ltb, le-ltb}
 use Rattle.rules.specs.declared.Connection.{Connection}
 use Rattle.rules.specs.declared.Schedule.{Schedule}
-use Rattle.rules.specs.Ownership.{handles, nobody, at}
+use Rattle.rules.specs.Ownership.{nobody, at}
 use Rattle.rules.specs.Answers.{refused, saved}
 use Rattle.rules.specs.Image.{Piece, written, joined, connectionPiece, connectionPieces, image}
 use Rattle.rules.specs.Save.{Written, saveChecks, saveDone, save}
@@ -97,3 +97,12 @@ unfolding save saveChecks saveDone
 save-written s buffer l =
     ap (λ (b : List ℕ). record { answer = saved (length (image (s .connections))); buffer = b }) (from-start (image (s .connections)) buffer l)
     ∙ sym (decided-passed (saveChecks s buffer) (λ n. record { answer = refused n; buffer = buffer }) (saveDone s buffer) (le-ltb (length buffer) (length (image (s .connections))) l, tt))
+
+-- A save of a schedule whose image is known, into a buffer that holds it.
+pub save-whole : (s : Schedule) (buffer bytes : List ℕ) → image (s .connections) ≡ bytes → length bytes ≤ length buffer
+    → save s buffer ≡ record { answer = saved (length bytes); buffer = bytes ++ drop (length bytes) buffer }
+unfolding saveDone
+save-whole s buffer bytes e l =
+    sym (save-written s buffer (omega (arith, ap (λ (x : List ℕ). length x) e)))
+    ∙ ap (λ (x : List ℕ). record { answer = saved (length x); buffer = sets buffer 0 x }) e
+    ∙ ap (λ (b : List ℕ). record { answer = saved (length bytes); buffer = b }) (from-start bytes buffer l)

@@ -1,27 +1,26 @@
 -- What becomes of a schedule when the connection of one handle changes.
 use mathlib.Core.Path.{_≡_, refl, sym, ap, ap₂, _∙_, subst}
-use mathlib.Core.Bool.{Bool, true, false, _||_, _&&_, not, cond, or-true, or-false, false≢true}
-use mathlib.Core.Logic.{_≢_, by-cases, _↔_}
-use mathlib.Core.List.{List, [], _∷_}
-use Prim.Native.Nat.{ℕ, zero, suc, _+_, _%_, _^_, _<_, _≤_}
+use mathlib.Core.Bool.{Bool, true, false, _||_, _&&_, cond, or-true, false≢true}
+use mathlib.Core.Logic.{_≢_, by-cases}
+use mathlib.Core.List.{List}
+use Prim.Native.Nat.{ℕ, zero, suc, _^_, _<_, _≤_}
 use native.Mathlib.Decide.{ℕ-discrete, decLe}
 use native.Mathlib.Omega.{arith}
 use lib.Dec.{leb, ltb}
-use lib.ListN.{length, getD, set, replicate, length-set}
+use lib.ListN.{length, set, replicate, length-set}
 use lib.Seq.{getD-set-same, getD-set-other, set-getD}
 use borrow.Author.Tests.{le-leb, lt-leb, lt-ltb, le-ltb}
 use Rattle.rules.specs.declared.Connection.{Connection}
 use Rattle.rules.specs.declared.Schedule.{Schedule}
 use Rattle.rules.specs.Time.{minusMod}
-use Rattle.rules.specs.Ownership.{handles, factor, nobody, at, belongs, owns, taken}
-use Rattle.rules.specs.Classes.{nothing, inRun, setRun}
+use Rattle.rules.specs.Ownership.{handles, nobody, at, belongs, owns, taken}
+use Rattle.rules.specs.Classes.{nothing, setRun}
 use Rattle.rules.specs.TreeBytes.{treeOf}
-use Rattle.rules.specs.Sound.{sound}
 use Rattle.rules.specs.Good.{Good, FreeSlotsZero, treeFor, scheduleOf}
 use Rattle.rules.specs.Handles.{connection}
-use Rattle.rules.proofs.BoolLaws.{bool-iff, either, is-false}
+use Rattle.rules.proofs.BoolLaws.{bool-iff, is-false}
 use Rattle.rules.proofs.TreeLaws.{tree-ext}
-use Rattle.rules.proofs.SoundLaws.{Numbers, Sound, sound-exactly, owns-parts, taken-at, taken-of, scheduled-good}
+use Rattle.rules.proofs.SoundLaws.{Numbers, Sound, sound-exactly, taken-at, taken-of, scheduled-good}
 
 -- ---- nobody
 pub nobody-owns : (b : ℕ) → owns nobody b ≡ false

@@ -1,24 +1,22 @@
 -- What soundness means, over endless time.
-use mathlib.Core.Path.{_≡_, refl, sym, ap, ap₂, _∙_, subst}
+use mathlib.Core.Path.{_≡_, refl, sym, ap, ap₂, _∙_}
 use mathlib.Core.Bool.{Bool, true, false, _||_, _&&_, not, or-true, false≢true}
 use mathlib.Core.Logic.{_≢_, by-cases, _↔_}
 use mathlib.Core.List.{List, [], _∷_}
-use Prim.Native.Nat.{ℕ, zero, suc, _+_, _*_, _%_, _^_, _<_, _≤_}
+use Prim.Native.Nat.{ℕ, zero, suc, _*_, _%_, _^_, _<_, _≤_}
 use native.Mathlib.Decide.{ℕ-discrete, decLe}
 use native.Mathlib.Omega.{arith}
-use lib.Dec.{leb, ltb}
 use lib.ListN.{length}
 use borrow.Author.Tests.{le-leb, leb-true, lt-ltb, ltb-true}
 use Rattle.rules.specs.declared.Connection.{Connection}
-use Rattle.rules.specs.declared.Schedule.{Schedule}
 use Rattle.rules.specs.Below.{any}
 use Rattle.rules.specs.Time.{blockMicros, listBlocks}
-use Rattle.rules.specs.Ownership.{handles, largestK, factor, nobody, at, belongs, owns, taken, ownedTwice}
+use Rattle.rules.specs.Ownership.{handles, largestK, factor, at, belongs, owns, taken, ownedTwice}
 use Rattle.rules.specs.Classes.{depth, free}
 use Rattle.rules.specs.Sound.{soundNumbers, allSound, apart, sound}
 use Rattle.rules.specs.Good.{Good, scheduleOf}
 use Rattle.rules.proofs.BoolLaws.{bool-iff, both, is-false, not-true-is-false}
-use Rattle.rules.proofs.BelowLaws.{any-of, any-at, any-none, none-at}
+use Rattle.rules.proofs.BelowLaws.{any-none, none-at}
 use Rattle.rules.proofs.EndlessTime.{belongs-mod}
 use Rattle.rules.proofs.ClassLaws.{Periodic, free-ever}
 

@@ -4,11 +4,10 @@ use mathlib.Core.Path.{_≡_, refl}
 use mathlib.Core.Bool.{true}
 use mathlib.Core.List.{List, [], _∷_, _++_, map}
 use lib.ListN.{set, replicate}
-use Rattle.rules.specs.declared.Connection.{Connection}
 use Rattle.rules.specs.declared.Schedule.{Schedule}
 use Rattle.rules.specs.Ownership.{handles, nobody}
 use Rattle.rules.specs.Good.{scheduleOf, fresh}
-use Rattle.rules.specs.Answers.{Answer, Outcome, refused, ok, kept, grown, shrunk, tight, owner}
+use Rattle.rules.specs.Answers.{Answer, refused, ok, shrunk, owner}
 use Rattle.rules.specs.Handles.{connection}
 use Rattle.rules.specs.Admit.{admit}
 use Rattle.rules.specs.Meter.{moved, need}

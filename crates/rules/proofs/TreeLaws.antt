@@ -1,18 +1,17 @@
 -- The laws of the tree's 128 bytes.
-use mathlib.Core.Path.{_≡_, refl, sym, ap, ap₂, _∙_, subst}
+use mathlib.Core.Path.{_≡_, refl, sym, ap, ap₂, _∙_}
 use mathlib.Core.Bool.{Bool, true, false, _||_, _&&_, not, cond, false≢true}
-use mathlib.Core.Logic.{_≢_, by-cases, _↔_}
+use mathlib.Core.Logic.{_≢_, by-cases}
 use mathlib.Core.List.{List}
 use Prim.Native.Nat.{ℕ, zero, suc, _+_, _-_, _*_, _/_, _%_, _^_, _<_, _≤_}
 use native.Mathlib.Nat.{pow-suc, div-one, div-div-eq-div-mul}
-use native.Mathlib.Decide.{ℕ-discrete, decLe}
+use native.Mathlib.Decide.{decLe}
 use native.Mathlib.Omega.{arith}
-use lib.Pow.{pow-pos, pow-mono}
+use lib.Pow.{pow-mono}
 use lib.Dec.{eqb}
 use lib.ListN.{length, getD, replicate, List·getD-eq-default}
 use lib.Seq.{ext-getD}
-use borrow.Author.Tests.{eqb-true, eqb-false}
-use Rattle.rules.specs.Below.{tabulate}
+use borrow.Author.Tests.{eqb-true}
 use Rattle.rules.specs.Classes.{depth, classTaken, withClass, withoutClass, inClass, free, nothing}
 use Rattle.rules.specs.Mirror.{mirrored}
 use Rattle.rules.specs.Nodes.{nodeBit}
@@ -21,7 +20,7 @@ use Rattle.rules.proofs.BoolLaws.{is-false}
 use Rattle.rules.proofs.BelowLaws.{length-tabulate, getD-tabulate}
 use Rattle.rules.proofs.ClassLaws.{class-taken-list}
 use Rattle.rules.proofs.MirrorLaws.{mirror-lt}
-use Rattle.rules.proofs.NodeLaws.{bit-node, bit-class, bit-children, bit-leaf, node-parts}
+use Rattle.rules.proofs.NodeLaws.{bit-class, bit-children, bit-leaf}
 
 -- ---- a number by its bits
 bit-0 : (v : Bool) (x : ℕ) → bitOf (cond v 1 0 + 2 * x) 0 ≡ v

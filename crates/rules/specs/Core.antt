@@ -1,6 +1,6 @@
 -- What the Bluetooth Core Specification (version 5.4) says, as far as it is used here.
 use Prim.Native.Nat.{ℕ, _*_, _≤_}
-use mathlib.Core.Bool.{Bool, not, _&&_}
+use mathlib.Core.Bool.{Bool, _&&_}
 use mathlib.Core.Path.{_≡_}
 use lib.Dec.{leb}
 use lib.IntN.{ℤ, pos, _-ℤ_, _*ℤ_}

@@ -1,5 +1,5 @@
 -- The meter of one connection, its estimate e in µs with its length L in blocks, and the rule that moves it.
-use Prim.Native.Nat.{ℕ, suc, _+_, _-_, _/_, min, max}
+use Prim.Native.Nat.{ℕ, _+_, _-_, _/_, min, max}
 use mathlib.Core.Bool.{Bool, cond}
 use lib.Dec.{eqb, ltb}
 use lib.IntN.{ℤ, pos, negsuc, _+ℤ_, _-ℤ_, natAbs}

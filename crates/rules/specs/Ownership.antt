@@ -1,11 +1,10 @@
 -- Which block belongs to which connection.
 use Prim.Native.Nat.{ℕ, _^_, _-_}
-use mathlib.Core.Bool.{Bool, true, false, _||_, _&&_}
+use mathlib.Core.Bool.{Bool, false, _||_, _&&_}
 use mathlib.Core.List.{List, [], _∷_}
 use lib.Dec.{ltb}
 use lib.ListN.{getD}
 use Rattle.rules.specs.declared.Connection.{Connection}
-use Rattle.rules.specs.declared.Schedule.{Schedule}
 use Rattle.rules.specs.Time.{minusMod}
 use Rattle.rules.specs.Core.{Subrating}
 

@@ -1,5 +1,5 @@
 -- Shifts and masks as powers and remainders.
-use mathlib.Core.Path.{_≡_, refl, sym, _∙_, ap}
+use mathlib.Core.Path.{_≡_, refl}
 use Prim.Native.Nat.{ℕ, _+_, _-_, _*_, _%_, _^_, _<_, _≤_}
 use native.Mathlib.Nat.{mod-eq-of-lt, mod-lt, mod-add-mod, one-mul}
 use native.Mathlib.Omega.{arith}

@@ -1,6 +1,6 @@
 //! The run of a connection, the classes of (A + j) mod F, in the tree.
 ghost use mathlib.Core.Path.{_≡_};
-ghost use Prim.Native.Nat.{_+_, _<_, _≤_, _%_, _^_};
+ghost use Prim.Native.Nat.{_+_, _<_, _≤_, _^_};
 ghost use Rattle.rules.specs.Classes.{depth};
 ghost use Rattle.rules.specs.Ownership.{nobody as noConnection};
 ghost use Rattle.tree.specs.Promises.{IsTree};

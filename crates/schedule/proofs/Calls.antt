@@ -4,7 +4,6 @@ use mathlib.Core.Bool.{true, false}
 use mathlib.Core.Logic.{_≢_}
 use Prim.Native.Nat.{ℕ}
 use Rattle.rules.specs.declared.Schedule.{Schedule}
-use Rattle.rules.specs.declared.Connection.{Connection}
 use Rattle.rules.specs.declared.Admitted.{Admitted}
 use Rattle.rules.specs.declared.Dropped.{Dropped}
 use Rattle.rules.specs.declared.Reported.{Reported}
@@ -17,7 +16,7 @@ use Rattle.rules.proofs.AnswerLaws.{admitted-injective, dropped-injective, repo
 use Rattle.rules.proofs.AdmitLaws.{admit-others}
 use Rattle.rules.proofs.DropLaws.{drop-others}
 use Rattle.rules.proofs.ReportLaws.{report-others}
-use Rattle.rules.proofs.LiveLaws.{admit-lives, admit-lives-other, drop-lives, drop-lives-other, report-lives}
+use Rattle.rules.proofs.LiveLaws.{admit-lives, drop-lives, report-lives}
 use Rattle.rules.proofs.CallLaws.{Leaves, refusal-keeps-schedule}
 use Rattle.schedule.specs.Promises.{Admits, Drops, Reports}
 

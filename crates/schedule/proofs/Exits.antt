@@ -23,14 +23,14 @@ use Rattle.rules.specs.Admit.{newConnection, admit}
 use Rattle.rules.specs.Drop.{dropDone, drop}
 use Rattle.rules.specs.Meter.{moved, need, target, movedMeter, change}
 use Rattle.rules.specs.Report.{roomToGrow, metered, reportAnswer, reportDone, report}
-use Rattle.rules.specs.Steps.{Step, places, refuses, ofPlan, planStep}
+use Rattle.rules.specs.Steps.{places, refuses, ofPlan, planStep}
 use Rattle.rules.proofs.SoundLaws.{Numbers}
 use Rattle.rules.proofs.ScheduleLaws.{inside, good-tree, good-sound, longer-tree, shorter-tree, live-runs, dead-runs}
 use Rattle.rules.proofs.AdmitLaws.{admit-good}
 use Rattle.rules.proofs.PlanLaws.{carry, admit-plan}
 use Rattle.rules.proofs.DropLaws.{drop-ok, drop-good}
 use Rattle.rules.proofs.MeterLaws.{change-cases, target-bounds}
-use Rattle.rules.proofs.ReportLaws.{Reportable, report-ok, report-good}
+use Rattle.rules.proofs.ReportLaws.{report-ok, report-good}
 use Rattle.rules.proofs.RunLaws.{tree-run-none}
 use Rattle.run.specs.Promises.{SetsRun}
 use Rattle.place.specs.Promises.{Plans}

@@ -1,9 +1,9 @@
 -- What the calls on a schedule promise.
-use Prim.Native.Nat.{ℕ, _+_, _*_, _%_, _^_, _<_, _≤_}
+use Prim.Native.Nat.{ℕ}
 use mathlib.Core.Path.{_≡_}
 use mathlib.Core.Bool.{Bool, true, false}
 use mathlib.Core.List.{List}
-use lib.ListN.{length, getD}
+use lib.ListN.{length}
 use Rattle.rules.specs.declared.Schedule.{Schedule}
 use Rattle.rules.specs.declared.Connection.{Connection}
 use Rattle.rules.specs.declared.Admitted.{Admitted}
@@ -11,19 +11,14 @@ use Rattle.rules.specs.declared.Dropped.{Dropped}
 use Rattle.rules.specs.declared.Reported.{Reported}
 use Rattle.rules.specs.declared.Reporting.{Reporting}
 use Rattle.rules.specs.declared.Reporting.the-variants.{Kept, Grown, Shrunk, Tight, Refused as ReportingRefused}
-use Rattle.rules.specs.declared.Place.{Place}
-use Rattle.rules.specs.declared.Plan.{Plan}
-use Rattle.rules.specs.Classes.{setRun, classTaken}
-use Rattle.rules.specs.Mirror.{mirrored}
-use Rattle.rules.specs.TreeBytes.{treeOf, bitAt}
+use Rattle.rules.specs.Classes.{setRun}
+use Rattle.rules.specs.TreeBytes.{treeOf}
 use Rattle.rules.specs.Answers.{ofAdmitted, ofDropped, ofReporting, ofReported}
 use Rattle.rules.specs.Admit.{admit}
 use Rattle.rules.specs.Drop.{drop}
 use Rattle.rules.specs.Meter.{change}
 use Rattle.rules.specs.Report.{roomToGrow, report}
-use Rattle.rules.specs.Time.{minusMod}
-use Rattle.rules.specs.Steps.{ofPlace, ofPlan, placeStep, planStep}
-use Rattle.rules.specs.Good.{Good, FreeSlotsZero, fresh}
+use Rattle.rules.specs.Good.{Good, fresh}
 use Rattle.tree.specs.Promises.{ByTree}
 
 -- What is taken once a report has the answer: the last blocks given back, one more taken, or as before.

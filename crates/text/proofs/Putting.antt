@@ -1,10 +1,10 @@
 -- Bytes put one after the other.
-use mathlib.Core.Path.{_≡_, refl, sym, ap, _∙_}
+use mathlib.Core.Path.{_≡_, refl, ap, _∙_}
 use mathlib.Core.List.{List, [], _∷_, _++_, append-nil}
 use Prim.Native.Nat.{ℕ, suc, _+_, _/_, _%_, _<_, _≤_}
 use native.Mathlib.Omega.{arith}
-use lib.ListN.{length, getD, take, set, length-append, length-take}
-use lib.Seq.{sets, length-sets, take-suc}
+use lib.ListN.{length, getD, take, set, length-append}
+use lib.Seq.{length-sets, take-suc}
 use Rattle.rules.specs.Decimal.{decimal}
 use Rattle.rules.specs.Words.{spaced}
 use Rattle.rules.proofs.StoreLaws.{put-after}

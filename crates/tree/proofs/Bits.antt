@@ -10,7 +10,7 @@ use native.Mathlib.Decide.{ℕ-discrete}
 use native.Mathlib.Omega.{arith}
 use lib.Bits.{bitOr, bitAnd, and-mask, or-shr, or-mod, or-zero-l, or-lt, and-shr, and-mod, and-zero-l, and-le-l, or-shifted}
 use lib.Pow.{pow-lt, pow-mono, pow-add}
-use lib.Dec.{eqb, eqb·suc-suc, eqb·suc-zero, eqb·zero-suc, lit<}
+use lib.Dec.{eqb}
 use lib.ListN.{length, getD, set, length-set}
 use lib.Seq.{getD-set-same, getD-set-other}
 use borrow.Author.Tests.{eq-eqb, ne-eqb}

@@ -1,5 +1,5 @@
 -- Joining the ancestors of a node, and the tree that comes of it.
-use mathlib.Core.Path.{_≡_, refl, sym, ap, ap₂, _∙_, subst}
+use mathlib.Core.Path.{_≡_, refl, sym, ap, _∙_, subst}
 use mathlib.Core.Bool.{Bool, true, false, _||_, _&&_, not, cond, or-self}
 use mathlib.Core.Logic.{_≢_, by-cases}
 use mathlib.Core.List.{List}
@@ -8,17 +8,15 @@ use native.Mathlib.Nat.{mul-le-mul-right}
 use native.Mathlib.Decide.{ℕ-discrete}
 use native.Mathlib.Omega.{arith}
 use lib.Pow.{pow-pos, pow-add}
-use lib.Dec.{eqb}
 use borrow.Author.Tests.{eq-eqb, ne-eqb}
 use Rattle.rules.specs.Classes.{depth, inClass, withClass, withoutClass}
 use Rattle.rules.specs.Mirror.{mirrored}
-use Rattle.rules.specs.TreeBytes.{treeOf, bitAt, Sized}
-use Rattle.rules.proofs.MirrorLaws.{mirror-lt}
-use Rattle.rules.proofs.TreeLaws.{Joined, tree-root, tree-joined, tree-leaves, tree-of-leaves, tree-ext}
+use Rattle.rules.specs.TreeBytes.{treeOf, bitAt}
+use Rattle.rules.proofs.TreeLaws.{Joined, tree-root, tree-leaves, tree-of-leaves, tree-ext}
 use Rattle.tree.specs.Under.{under}
 use Rattle.tree.specs.Promises.{WritesBelow, Joins, MissingAbove, JoinsAbove, WritesClass}
 use Rattle.tree.proofs.Bits.{node-lt}
-use Rattle.tree.proofs.UnderLaws.{under-lt, not-above, above-less, above-more, child-under, under-leaf}
+use Rattle.tree.proofs.UnderLaws.{under-lt, not-above, above-more, child-under, under-leaf}
 
 -- ---- one node joined
 module _ (w : ℕ) (t t′ : List ℕ) (hw : 0 < w) (hw2 : w < 512) (j : Joins w t t′) where

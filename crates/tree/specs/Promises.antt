@@ -1,7 +1,7 @@
 -- What the tree's functions promise of the bytes before and after.
 use Prim.Native.Nat.{ℕ, _+_, _*_, _/_, _<_, _^_}
 use mathlib.Core.Path.{_≡_}
-use mathlib.Core.Bool.{Bool, true, false, cond, _||_, not}
+use mathlib.Core.Bool.{Bool, false, cond, _||_}
 use mathlib.Core.List.{List}
 use lib.Dec.{eqb}
 use Rattle.rules.specs.Classes.{free, inClass, withClass, withoutClass}

@@ -1,8 +1,7 @@
 -- `gateway::read_input` meets its contract. The measure is the room that is left.
 use borrow.Author.Needs.{needs}
-use mathlib.Core.Path.{_≡_, refl}
+use mathlib.Core.Path.{_≡_}
 use Prim.Native.Nat.{_-_, _≤_}
-use native.Mathlib.Omega.{arith}
 use lib.ListN.{length}
 use Rattle.gateway.proofs.read_input.Statement.{statement}
 use Rattle.gateway.proofs.read_input.Tie as tie

@@ -1,7 +1,7 @@
 -- `meter::move_meter` meets its contract.
 use borrow.Author.Needs.{needs}
-use mathlib.Core.Path.{_≡_, ap, ap₂, _∙_}
-use Prim.Native.Nat.{ℕ, _≤_}
+use mathlib.Core.Path.{ap, ap₂, _∙_}
+use Prim.Native.Nat.{ℕ}
 use Rattle.rules.specs.declared.Meter.{Meter}
 use Rattle.rules.specs.Meter.{need, target, movedMeter}
 use Rattle.rules.proofs.MeterLaws.{moved-most}

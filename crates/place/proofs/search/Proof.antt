@@ -1,7 +1,7 @@
 -- `place::search` meets its contract. Each node before p is blocked; the run at p is clear up to its block j.
 use borrow.Author.Needs.{needs}
 use mathlib.Core.Path.{_≡_, refl, sym, ap, _∙_, subst}
-use mathlib.Core.Bool.{Bool, true, false}
+use mathlib.Core.Bool.{false}
 use mathlib.Core.Logic.{by-cases}
 use Prim.Native.Nat.{ℕ, _+_, _-_, _%_, _≤_, _<_, _^_}
 use native.Mathlib.Decide.{ℕ-discrete}

@@ -1,6 +1,6 @@
 -- `run::minus_mod` meets its contract: the masks are remainders by the factor.
 use borrow.Author.Needs.{needs}
-use Prim.Native.Nat.{_+_, _-_, _%_, _^_, _<_}
+use Prim.Native.Nat.{_-_}
 use native.Mathlib.Nat.{mod-lt}
 use native.Mathlib.Omega.{arith}
 use lib.Pow.{pow-pos}

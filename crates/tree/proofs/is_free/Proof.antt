@@ -1,7 +1,7 @@
 -- `tree::is_free` meets its contract: a class is free exactly if its node's bit is 0.
 use borrow.Author.Needs.{needs}
 use mathlib.Core.Path.{sym, ap, _∙_}
-use mathlib.Core.Bool.{Bool, not}
+use mathlib.Core.Bool.{not}
 use mathlib.Core.List.{List}
 use Prim.Native.Nat.{ℕ, _+_, _^_}
 use Rattle.rules.specs.Mirror.{mirrored}

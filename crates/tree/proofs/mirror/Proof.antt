@@ -1,6 +1,6 @@
 -- `tree::mirror` meets its contract. The invariant: what is mirrored so far, followed by the mirror of what is left.
-use mathlib.Core.Path.{_≡_, _∙_}
-use Prim.Native.Nat.{ℕ, suc, _≤_, _<_, _+_, _-_, _*_, _^_}
+use mathlib.Core.Path.{_≡_}
+use Prim.Native.Nat.{_≤_, _<_, _+_, _-_, _*_, _^_}
 use native.Mathlib.Omega.{arith}
 use Rattle.rules.specs.Mirror.{mirrored}
 use Rattle.rules.proofs.MirrorLaws.{mirror-lt}

@@ -1,11 +1,8 @@
 -- `tree::write_class` meets its contract: the leaves are right, and every inner node is joined.
 use borrow.Author.Needs.{needs}
-use mathlib.Core.Path.{_≡_, refl, ap}
-use mathlib.Core.List.{List}
 use Prim.Native.Nat.{ℕ, _<_}
 use native.Mathlib.Omega.{arith}
 use lib.Pow.{pow-pos}
-use Rattle.rules.specs.TreeBytes.{treeOf, Sized}
 use Rattle.rules.proofs.TreeLaws.{Joined, tree-sized, tree-joined}
 use Rattle.tree.proofs.Bits.{node-lt, node-room}
 use Rattle.tree.proofs.JoinLaws.{below-missing, class-written}

@@ -1,6 +1,6 @@
 -- `command::carry_out` meets its contract: a bad line, or a command.
 use borrow.Author.Needs.{needs}
-use mathlib.Core.Path.{_≡_, sym, _∙_}
+use mathlib.Core.Path.{sym, _∙_}
 use native.Mathlib.Omega.{arith}
 use Rattle.command.proofs.Carrying.{carried-bad, room-said, carried-said}
 use Rattle.command.proofs.running.carry_out.Statement.{statement}

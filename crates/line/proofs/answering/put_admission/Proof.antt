@@ -1,6 +1,6 @@
 -- `line::put_admission` meets its contract: placed, or refused.
 use borrow.Author.Needs.{needs}
-use mathlib.Core.Path.{_≡_, sym, ap}
+use mathlib.Core.Path.{sym, ap}
 use Rattle.rules.specs.Answers.{ofAdmission}
 use Rattle.line.proofs.Lines.{answer-as}
 use Rattle.line.proofs.answering.put_admission.Statement.{statement}

@@ -1,6 +1,6 @@
 -- `line::put_distance` meets its contract: slots, or refused.
 use borrow.Author.Needs.{needs}
-use mathlib.Core.Path.{_≡_, sym, ap}
+use mathlib.Core.Path.{sym, ap}
 use native.Mathlib.Omega.{arith}
 use Rattle.rules.specs.Answers.{ofDistance}
 use Rattle.rules.specs.Words.{wordsOf}

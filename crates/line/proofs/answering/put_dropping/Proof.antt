@@ -1,6 +1,6 @@
 -- `line::put_dropping` meets its contract: done, or refused.
 use borrow.Author.Needs.{needs}
-use mathlib.Core.Path.{_≡_, sym, ap}
+use mathlib.Core.Path.{sym, ap}
 use native.Mathlib.Omega.{arith}
 use Rattle.rules.specs.Answers.{ofDropping}
 use Rattle.rules.specs.Words.{wordsOf}

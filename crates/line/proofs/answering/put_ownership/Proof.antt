@@ -1,6 +1,6 @@
 -- `line::put_ownership` meets its contract: a handle, or idle.
 use borrow.Author.Needs.{needs}
-use mathlib.Core.Path.{_≡_, sym, ap}
+use mathlib.Core.Path.{sym, ap}
 use native.Mathlib.Omega.{arith}
 use Rattle.rules.specs.Answers.{ofOwnership}
 use Rattle.rules.specs.Words.{wordsOf}

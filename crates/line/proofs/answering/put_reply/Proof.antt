@@ -1,6 +1,6 @@
 -- `line::put_reply` meets its contract: each answer has its own.
 use borrow.Author.Needs.{needs}
-use mathlib.Core.Path.{_≡_, sym, ap}
+use mathlib.Core.Path.{sym, ap}
 use Rattle.rules.specs.Answers.{ofReply}
 use Rattle.line.proofs.Lines.{answer-as}
 use Rattle.line.proofs.answering.put_reply.Statement.{statement}

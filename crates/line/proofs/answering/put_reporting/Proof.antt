@@ -1,6 +1,6 @@
 -- `line::put_reporting` meets its contract: kept, grown, shrunk or tight, or refused.
 use borrow.Author.Needs.{needs}
-use mathlib.Core.Path.{_≡_, sym, ap}
+use mathlib.Core.Path.{sym, ap}
 use native.Mathlib.Omega.{arith}
 use Rattle.rules.specs.Answers.{ofReporting}
 use Rattle.rules.specs.Words.{wordsOf}

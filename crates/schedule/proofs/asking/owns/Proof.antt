@@ -1,9 +1,8 @@
 -- `schedule::asking::owns` meets its contract.
 use borrow.Author.Needs.{needs}
-use mathlib.Core.Path.{_≡_, ap, _∙_}
+use mathlib.Core.Path.{ap}
 use Prim.Native.Nat.{ℕ}
 use lib.Dec.{ltb}
-use Rattle.rules.specs.Time.{minusMod}
 use Rattle.rules.specs.Ownership.{belongs, owns}
 use Rattle.schedule.proofs.asking.owns.Statement.{statement}
 use Rattle.schedule.proofs.asking.owns.Tie as tie

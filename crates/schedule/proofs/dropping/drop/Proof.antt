@@ -1,6 +1,6 @@
 -- `schedule::dropping::drop` meets its contract: the whole run is given back.
 use borrow.Author.Needs.{needs}
-use mathlib.Core.Path.{_≡_, sym}
+use mathlib.Core.Path.{sym}
 use native.Mathlib.Nat.{le-trans}
 use native.Mathlib.Omega.{arith}
 use Rattle.rules.specs.Ownership.{taken}

@@ -1,7 +1,7 @@
 -- `text::numbers_from` meets its contract. The invariant: i numbers are read, and what is left is up to the line from next on.
 use borrow.Author.Needs.{needs}
 use mathlib.Core.Path.{_≡_, refl, sym, ap, _∙_}
-use Prim.Native.Nat.{ℕ, suc, _+_, _-_, _<_, _≤_}
+use Prim.Native.Nat.{_+_, _-_, _<_, _≤_}
 use native.Mathlib.Omega.{arith}
 use lib.ListN.{length, take, drop, length-set}
 use Rattle.rules.specs.LineSteps.{ofNumber, numbersIn}

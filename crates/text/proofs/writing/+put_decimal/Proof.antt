@@ -1,8 +1,7 @@
 -- `text::put_decimal` meets its contract. The measure is the number: a tenth of it is put first.
 use borrow.Author.Needs.{needs}
-use Prim.Native.Nat.{ℕ, _/_, _≤_, _<_}
+use Prim.Native.Nat.{ℕ, _/_, _<_}
 use native.Mathlib.Omega.{arith}
-use lib.ListN.{length, length-set}
 use borrow.Fn.Kinds.{In}
 use borrow.Fn.PlainCycle.{Measures, is, falls, and}
 use Rattle.text.proofs.Putting.{digits-one, digits-more, puts-one, puts-more, puts-length}

@@ -1,12 +1,7 @@
 -- `text::put_number` meets its contract: a space, and the digits behind it.
 use borrow.Author.Needs.{needs}
-use mathlib.Core.Path.{_≡_, ap}
-use mathlib.Core.List.{List, [], _∷_}
-use Prim.Native.Nat.{ℕ, _+_}
 use native.Mathlib.Omega.{arith}
 use lib.ListN.{length-set}
-use Rattle.rules.specs.Decimal.{decimal}
-use Rattle.rules.specs.Words.{spaced}
 use Rattle.text.proofs.Putting.{spaced-length, puts-spaced, puts-length}
 use Rattle.text.proofs.writing.put_number.Statement.{statement}
 use Rattle.text.proofs.writing.put_number.Tie as tie

@@ -1,0 +1,38 @@
+-- "Two outcomes that satisfy a call's statement are shown to be equal": of every public call, in one place.
+use Prim.Native.Nat.{ℕ}
+use mathlib.Core.Path.{_≡_}
+use mathlib.Core.List.{List}
+use Rattle.rules.specs.declared.Schedule.{Schedule}
+use Rattle.rules.specs.declared.Admitted.{Admitted}
+use Rattle.rules.specs.declared.Dropped.{Dropped}
+use Rattle.rules.specs.declared.Reported.{Reported}
+use Rattle.rules.specs.declared.Ownership.{Ownership}
+use Rattle.rules.specs.declared.Distance.{Distance}
+use Rattle.rules.specs.declared.Saving.{Saving}
+use Rattle.rules.specs.declared.Loaded.{Loaded}
+use Rattle.rules.specs.Answers.{ofOwnership, ofDistance}
+use Rattle.rules.specs.Owner.{ownerOf}
+use Rattle.rules.specs.Anchor.{anchor as anchorRule}
+use Rattle.schedule.specs.Promises.{Starts, Admits, Drops, Reports}
+use Rattle.image.specs.Promises.{Saves, Loads}
+use Rattle.command.specs.declared.Output.{Output}
+use Rattle.command.specs.Promises.{Runs}
+use Rattle.history.specs.declared.Call.{Call}
+use Rattle.history.specs.declared.Stepped.{Stepped}
+use Rattle.history.specs.Promises.{ofStepped, Steps}
+
+pub record OneOutcome : Type 0 where
+  pub fresh : (a b : Schedule) → Starts a → Starts b → a ≡ b
+  pub admit : (s : Schedule) (handle interval floor ceiling : ℕ) (a b : Admitted)
+      → Admits s handle interval floor ceiling a → Admits s handle interval floor ceiling b → a ≡ b
+  pub drop : (s : Schedule) (handle : ℕ) (a b : Dropped) → Drops s handle a → Drops s handle b → a ≡ b
+  pub report : (s : Schedule) (handle sample : ℕ) (a b : Reported) → Reports s handle sample a → Reports s handle sample b → a ≡ b
+  pub owner : (s : Schedule) (block : ℕ) (a b : Ownership) → ofOwnership a ≡ ownerOf s block → ofOwnership b ≡ ownerOf s block → a ≡ b
+  pub anchor : (s : Schedule) (handle block : ℕ) (a b : Distance)
+      → ofDistance a ≡ anchorRule s handle block → ofDistance b ≡ anchorRule s handle block → a ≡ b
+  pub save : (s : Schedule) (buffer x y : List ℕ) (a b : Saving) → Saves s buffer x a → Saves s buffer y b → (a ≡ b) × (x ≡ y)
+  pub load : (s : Schedule) (bytes : List ℕ) (a b : Loaded) → Loads s bytes a → Loads s bytes b → a ≡ b
+  pub run : (input : List ℕ) (a b : Output) → Runs input a → Runs input b → a ≡ b
+  -- The answer, the schedule and the buffer: which case of its enum holds a refusal, the sheet does not say.
+  pub step : (s : Schedule) (call : Call) (bytes buffer x y : List ℕ) (a b : Stepped)
+      → Steps s call bytes buffer x a → Steps s call bytes buffer y b → ofStepped a x ≡ ofStepped b y
