@@ -39,14 +39,32 @@ fn target(needed: u32, floor: u16, ceiling: u16) -> u16
     needed as u16
 }
 
-/// The meter moved by a sample: the new estimate, with the length that it aims at.
-pub fn move_meter(estimate: u32, length: u16, sample: u32, floor: u16, ceiling: u16) -> Meter
-    requires { ⌜ (estimate ≤ 4000000) × (sample ≤ 4000000) ⌝ }
-    ensures { λ r. ⌜ r ≡ movedMeter (record { estimate = estimate; length = length }) sample floor ceiling ⌝ }
+// The meter moved by a sample: the new estimate, with the length that it aims at.
+fn moved_meter(m: Meter, sample: u32, floor: u16, ceiling: u16) -> Meter
+    requires { ⌜ (m .estimate ≤ 4000000) × (sample ≤ 4000000) ⌝ }
+    ensures { λ r. ⌜ r ≡ movedMeter m sample floor ceiling ⌝ }
 {
-    let e = moved(estimate, sample);
+    let e = moved(m.estimate, sample);
     Meter {
         estimate: e,
         length: target(need(e), floor, ceiling),
     }
+}
+
+// The meter, lent to the rule that moves it.
+fn move_lent(m: &mut Meter, sample: u32, floor: u16, ceiling: u16)
+    requires { ⌜ (now m .estimate ≤ 4000000) × (sample ≤ 4000000) ⌝ }
+    ensures { λ _. ⌜ now (m .exit) ≡ movedMeter (now (m .entry)) sample floor ceiling ⌝ }
+{
+    *m = moved_meter(*m, sample, floor, ceiling);
+}
+
+/// Makes a connection's meter, lends it to the rule with a sample, and hands back what came of it.
+pub fn move_meter(estimate: u32, length: u16, sample: u32, floor: u16, ceiling: u16) -> Meter
+    requires { ⌜ (estimate ≤ 4000000) × (sample ≤ 4000000) ⌝ }
+    ensures { λ r. ⌜ r ≡ movedMeter (record { estimate = estimate; length = length }) sample floor ceiling ⌝ }
+{
+    let mut m = Meter { estimate, length };
+    move_lent(&mut m, sample, floor, ceiling);
+    m
 }
