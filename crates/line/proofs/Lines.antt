@@ -1,16 +1,15 @@
 -- The line of an answer, put piece by piece.
-use mathlib.Core.Path.{_≡_, sym, subst, ap, _∙_}
-use mathlib.Core.List.{List, [], _∷_, _++_, append-nil, append-assoc}
+use mathlib.Core.Path.{_≡_, subst}
+use mathlib.Core.List.{List, [], _∷_}
 use Prim.Native.Nat.{ℕ, suc, _+_, _^_, _<_, _≤_}
 use native.Mathlib.Omega.{arith}
 use lib.ListN.{length}
 use Rattle.rules.specs.Answers.{Answer, ok}
-use Rattle.rules.specs.Decimal.{decimal}
-use Rattle.rules.specs.Text.{byte, text}
+use Rattle.rules.specs.Text.{text}
 use Rattle.rules.specs.Words.{spaced, wordsOf}
 use Rattle.rules.proofs.DecimalLaws.{decimal-length}
 use Rattle.text.specs.Promises.{Puts}
-use Rattle.text.proofs.Putting.{puts-after, spaced-length}
+use Rattle.text.proofs.Putting.{puts-after, puts-number, spaced-length}
 use Rattle.line.specs.Promises.{PutsLine, PutsAnswer}
 
 -- Equal answers have the same line.
@@ -21,19 +20,8 @@ answer-as {entry} {exit} {start} {next} e p = subst (λ (x : Answer). PutsAnswer
 pub number-room : (k n : ℕ) → n < 10 ^ suc k → length (spaced (n ∷ [])) ≤ k + 2
 number-room k n h = omega (arith, spaced-length n, decimal-length k n h)
 
--- Numbers one after the other.
-spaced-cons : (n : ℕ) (ns : List ℕ) → spaced (n ∷ ns) ≡ spaced (n ∷ []) ++ spaced ns
-unfolding spaced
-spaced-cons n ns = ap {B = List ℕ} (λ l. byte " " ∷ l) (sym (ap (λ (l : List ℕ). l ++ spaced ns) (append-nil (decimal n))))
-
-placed-words : (F A L : ℕ) → text "ok" ++ spaced (F ∷ []) ++ spaced (A ∷ []) ++ spaced (L ∷ []) ≡ wordsOf (ok F A L)
-unfolding wordsOf
-placed-words F A L =
-    append-assoc (text "ok" ++ spaced (F ∷ [])) (spaced (A ∷ [])) (spaced (L ∷ []))
-    ∙ append-assoc (text "ok") (spaced (F ∷ [])) (spaced (A ∷ []) ++ spaced (L ∷ []))
-    ∙ ap (λ (l : List ℕ). text "ok" ++ l) (sym (spaced-cons F (A ∷ L ∷ []) ∙ ap (λ (l : List ℕ). spaced (F ∷ []) ++ l) (spaced-cons A (L ∷ []))))
-
+-- Three numbers after `ok`.
 pub placed-line : {l b c d e z : List ℕ} {start i j k m n : ℕ} (F A L : ℕ) → Puts l start (text "ok") b i → Puts b i (spaced (F ∷ [])) c j
     → Puts c j (spaced (A ∷ [])) d k → Puts d k (spaced (L ∷ [])) e m → Puts e m (text "\n") z n → PutsLine l start (wordsOf (ok F A L)) z n
-placed-line {l} {z = z} {start} {n = n} F A L p q r s t =
-    subst (λ (w : List ℕ). PutsLine l start w z n) (placed-words F A L) (puts-after (puts-after (puts-after (puts-after p q) r) s) t)
+unfolding wordsOf
+placed-line F A L p q r s t = puts-after (puts-number (text "ok") (F ∷ A ∷ []) L (puts-number (text "ok") (F ∷ []) A (puts-after p q) r) s) t

@@ -1,6 +1,6 @@
 -- Bytes put one after the other.
-use mathlib.Core.Path.{_≡_, refl, ap, _∙_}
-use mathlib.Core.List.{List, [], _∷_, _++_, append-nil}
+use mathlib.Core.Path.{_≡_, refl, sym, ap, subst, _∙_}
+use mathlib.Core.List.{List, [], _∷_, _++_, append-nil, append-assoc}
 use Prim.Native.Nat.{ℕ, suc, _+_, _/_, _%_, _<_, _≤_}
 use native.Mathlib.Omega.{arith}
 use lib.ListN.{length, getD, take, set, length-append}
@@ -63,3 +63,15 @@ puts-spaced l b start n next p = rw (spaced-one n) (puts-after (puts-byte l star
 
 pub spaced-length : (n : ℕ) → length (spaced (n ∷ [])) ≡ length (decimal n) + 1
 spaced-length n = ap (λ (x : List ℕ). length x) (spaced-one n) ∙ omega arith
+
+-- One number more after others.
+pub spaced-append : (ns ms : List ℕ) → spaced (ns ++ ms) ≡ spaced ns ++ spaced ms
+unfolding spaced
+spaced-append [] ms = refl
+spaced-append (n ∷ ns) ms =
+    ap {B = List ℕ} (λ l. 32 ∷ l) (ap (λ (l : List ℕ). decimal n ++ l) (spaced-append ns ms) ∙ sym (append-assoc (decimal n) (spaced ns) (spaced ms)))
+
+pub puts-number : {l b c : List ℕ} {start i j : ℕ} (word ns : List ℕ) (n : ℕ) → Puts l start (word ++ spaced ns) b i → Puts b i (spaced (n ∷ [])) c j
+    → Puts l start (word ++ spaced (ns ++ (n ∷ []))) c j
+puts-number {l} {c = c} {start} {j = j} word ns n p q =
+    subst (λ (x : List ℕ). Puts l start x c j) (append-assoc word (spaced ns) (spaced (n ∷ [])) ∙ ap (λ (x : List ℕ). word ++ x) (sym (spaced-append ns (n ∷ [])))) (puts-after p q)

@@ -20,8 +20,8 @@ pub fn put_word(out: &mut [u8], at: usize, word: &[u8]) -> usize
     at + word.len()
 }
 
-// The digits of a number: those of a tenth of it, then the last.
-fn put_decimal(out: &mut [u8], at: usize, n: u32) -> usize
+/// The digits of a number: those of a tenth of it, then the last.
+pub fn put_decimal(out: &mut [u8], at: usize, n: u32) -> usize
     requires { ⌜ at + length (decimal n) ≤ length (now out) ⌝ }
     ensures { λ r. ⌜ Puts (now (out .entry)) at (decimal n) (now (out .exit)) r ⌝ }
 {

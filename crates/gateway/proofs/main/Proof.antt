@@ -5,19 +5,19 @@ use Prim.Native.Nat.{_≤_}
 use lib.ListN.{length}
 use lib.Seq.{length-take-le}
 use Rattle.command.proofs.Calls.{runs-within}
-use Rattle.gateway.specs.Promises.{Holds}
+use Rattle.input.specs.Promises.{Holds}
 use Rattle.gateway.proofs.main.Statement.{statement}
 use Rattle.gateway.proofs.main.Tie as tie
 
 -- what was read lies within the buffer
-held : (c : tie.After-known-told) → c .before .input .given .0 .0 ≤ length (c .before .before .before .before .read-input .last .0)
-held c = subst (Holds (length (c .before .before .before .before .read-input .last .0))) (c .before .input .given .1) (c .before .before .before .before .read-input .ensures)
+held : (c : tie.After-known-told) → c .before .input .given .0 .0 ≤ length (c .before .before .before .before .read-all .last .0)
+held c = subst (Holds (length (c .before .before .before .before .read-all .last .0))) (c .before .input .given .1) (c .before .before .before .before .read-all .ensures)
 
-slice-aggregate-read-input : tie.Need-slice-aggregate-read-input
-slice-aggregate-read-input c = search needs
+slice-aggregate-read-all : tie.Need-slice-aggregate-read-all
+slice-aggregate-read-all c = search needs
 
-read-input-requires : tie.Need-read-input-requires
-read-input-requires c κs = search needs
+read-all-requires : tie.Need-read-all-requires
+read-all-requires c κs = search needs
 
 enum-known-input : tie.Need-enum-known-input
 enum-known-input c = search needs
@@ -68,8 +68,8 @@ pub main-spec : {M : Type 1} → statement M
 main-spec =
     tie.close
     (tie.spec
-    slice-aggregate-read-input
-    read-input-requires
+    slice-aggregate-read-all
+    read-all-requires
     enum-known-input
     enum-told
     slice-aggregate-write-all

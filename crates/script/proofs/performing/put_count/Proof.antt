@@ -1,0 +1,28 @@
+-- `script::put_count` meets its contract: the word, then the number.
+use borrow.Author.Needs.{needs}
+use mathlib.Core.Path.{_∙_}
+use native.Mathlib.Omega.{arith}
+use Rattle.text.proofs.Putting.{puts-after, puts-length}
+use Rattle.line.proofs.Lines.{number-room}
+use Rattle.script.proofs.performing.put_count.Statement.{statement}
+use Rattle.script.proofs.performing.put_count.Tie as tie
+
+put-word-requires : tie.Need-put-word-requires
+put-word-requires c κs = search needs
+
+put-number-requires : tie.Need-put-number-requires
+put-number-requires c κs =
+    let w = c .before .before .before .put-word .ensures in
+    omega (arith, c .before .before .before .before .before .before .before .pre, w .ends, puts-length w, number-room 9 (c .before .before .before .before .before .before .before .args .n) (omega arith))
+
+same-length : tie.Need-same-length
+same-length c = puts-length (c .before .before .put-number .ensures) ∙ puts-length (c .before .before .before .before .before .before .put-word .ensures)
+
+returns : tie.Need-returns
+returns c =
+    let w = c .before .before .before .before .before .before .put-word .ensures in
+    let q = c .before .before .put-number .ensures in
+    record { puts = puts-after w q; room = omega (arith, w .ends, q .ends, number-room 9 (c .before .before .before .before .before .before .before .before .before .before .args .n) (omega arith)) }
+
+pub put-count-spec : {M : Type 1} → statement M
+put-count-spec = tie.close (tie.spec put-word-requires put-number-requires same-length returns)

@@ -1,0 +1,56 @@
+-- `script::put_run` meets its contract: the handle and three numbers.
+use borrow.Author.Needs.{needs}
+use native.Mathlib.Omega.{arith}
+use Rattle.rules.specs.Decimal.{decimal}
+use Rattle.rules.proofs.DecimalLaws.{decimal-length}
+use Rattle.text.proofs.Putting.{puts-length}
+use Rattle.line.proofs.Lines.{number-room}
+use Rattle.script.proofs.Printing.{three-numbers}
+use Rattle.script.proofs.performing.put_run.Statement.{statement}
+use Rattle.script.proofs.performing.put_run.Tie as tie
+
+put-decimal-requires : tie.Need-put-decimal-requires
+put-decimal-requires c κs = omega (arith, c .before .before .pre, decimal-length 2 (c .before .before .args .handle) (omega arith))
+
+cast-put-number : tie.Need-cast-put-number
+cast-put-number c = search needs
+
+put-number-requires : tie.Need-put-number-requires
+put-number-requires c κs = omega (arith, c .before .before .before .before .before .before .before .pre, c .before .before .before .before .put-decimal .ensures .ends, puts-length (c .before .before .before .before .put-decimal .ensures), decimal-length 2 (c .before .before .before .before .before .before .before .args .handle) (omega arith), number-room 2 (c .before .before .before .before .before .before .before .args .c .k) (omega arith))
+
+cast-put-number-2 : tie.Need-cast-put-number-2
+cast-put-number-2 c = search needs
+
+put-number-requires-2 : tie.Need-put-number-requires-2
+put-number-requires-2 c κs = omega (arith, c .before .before .before .before .before .before .before .before .before .before .before .before .pre, c .before .before .before .before .before .before .before .before .before .put-decimal .ensures .ends, puts-length (c .before .before .before .before .before .before .before .before .before .put-decimal .ensures), c .before .before .before .before .put-number .ensures .ends, puts-length (c .before .before .before .before .put-number .ensures), decimal-length 2 (c .before .before .before .before .before .before .before .before .before .before .before .before .args .handle) (omega arith), number-room 2 (c .before .before .before .before .before .before .before .before .before .before .before .before .args .c .k) (omega arith), number-room 4 (c .before .before .before .before .before .before .before .before .before .before .before .before .args .c .anchor) (omega arith))
+
+cast-put-number-3 : tie.Need-cast-put-number-3
+cast-put-number-3 c = search needs
+
+put-number-requires-3 : tie.Need-put-number-requires-3
+put-number-requires-3 c κs = omega (arith, c .before .before .before .before .before .before .before .before .before .before .before .before .before .before .before .before .before .pre, c .before .before .before .before .before .before .before .before .before .before .before .before .before .before .put-decimal .ensures .ends, puts-length (c .before .before .before .before .before .before .before .before .before .before .before .before .before .before .put-decimal .ensures), c .before .before .before .before .before .before .before .before .before .put-number .ensures .ends, puts-length (c .before .before .before .before .before .before .before .before .before .put-number .ensures), c .before .before .before .before .put-number2 .ensures .ends, puts-length (c .before .before .before .before .put-number2 .ensures), decimal-length 2 (c .before .before .before .before .before .before .before .before .before .before .before .before .before .before .before .before .before .args .handle) (omega arith), number-room 2 (c .before .before .before .before .before .before .before .before .before .before .before .before .before .before .before .before .before .args .c .k) (omega arith), number-room 4 (c .before .before .before .before .before .before .before .before .before .before .before .before .before .before .before .before .before .args .c .anchor) (omega arith), number-room 4 (c .before .before .before .before .before .before .before .before .before .before .before .before .before .before .before .before .before .args .c .length) (omega arith))
+
+same-length : tie.Need-same-length
+same-length c = search needs
+
+returns : tie.Need-returns
+returns c =
+    let s = c .before .before .before .before .before .before .before .before .before .before .before .before .before .before .before .before .before .before .before .before .args in
+    record {
+      puts = three-numbers (decimal (s .handle)) (s .c .k) (s .c .anchor) (s .c .length) (c .before .before .before .before .before .before .before .before .before .before .before .before .before .before .before .before .before .put-decimal .ensures) (c .before .before .before .before .before .before .before .before .before .before .before .before .put-number .ensures) (c .before .before .before .before .before .before .before .put-number2 .ensures) (c .before .before .put-number3 .ensures);
+      room = omega (arith, c .before .before .before .before .before .before .before .before .before .before .before .before .before .before .before .before .before .before .before .before .pre, c .before .before .before .before .before .before .before .before .before .before .before .before .before .before .before .before .before .put-decimal .ensures .ends, puts-length (c .before .before .before .before .before .before .before .before .before .before .before .before .before .before .before .before .before .put-decimal .ensures), c .before .before .before .before .before .before .before .before .before .before .before .before .put-number .ensures .ends, puts-length (c .before .before .before .before .before .before .before .before .before .before .before .before .put-number .ensures), c .before .before .before .before .before .before .before .put-number2 .ensures .ends, puts-length (c .before .before .before .before .before .before .before .put-number2 .ensures), c .before .before .put-number3 .ensures .ends, puts-length (c .before .before .put-number3 .ensures), decimal-length 2 (c .before .before .before .before .before .before .before .before .before .before .before .before .before .before .before .before .before .before .before .before .args .handle) (omega arith), number-room 2 (c .before .before .before .before .before .before .before .before .before .before .before .before .before .before .before .before .before .before .before .before .args .c .k) (omega arith), number-room 4 (c .before .before .before .before .before .before .before .before .before .before .before .before .before .before .before .before .before .before .before .before .args .c .anchor) (omega arith), number-room 4 (c .before .before .before .before .before .before .before .before .before .before .before .before .before .before .before .before .before .before .before .before .args .c .length) (omega arith));
+    }
+
+pub put-run-spec : {M : Type 1} → statement M
+put-run-spec =
+    tie.close
+    (tie.spec
+    put-decimal-requires
+    cast-put-number
+    put-number-requires
+    cast-put-number-2
+    put-number-requires-2
+    cast-put-number-3
+    put-number-requires-3
+    same-length
+    returns)

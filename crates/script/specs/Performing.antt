@@ -1,0 +1,75 @@
+-- What a line of a script prints, and the schedule after it.
+use Prim.Native.Nat.{ℕ, suc}
+use mathlib.Core.Bool.{cond}
+use mathlib.Core.List.{List, [], _∷_, _++_}
+use lib.ListN.{replicate}
+use Rattle.rules.specs.declared.Schedule.{Schedule}
+use Rattle.rules.specs.declared.Connection.{Connection}
+use Rattle.rules.specs.declared.Line.the-variants.{Says}
+use Rattle.rules.specs.Text.{byte, text}
+use Rattle.rules.specs.Decimal.{decimal}
+use Rattle.rules.specs.Words.{spaced, wordsOf}
+use Rattle.rules.specs.Good.{fresh}
+use Rattle.rules.specs.Image.{image}
+use Rattle.rules.specs.Save.{save}
+use Rattle.rules.specs.Load.{load}
+use Rattle.rules.specs.Program.{Printed, heed}
+use Rattle.script.specs.Hex.{hex}
+use Rattle.script.specs.Orders.{Order, command, fresh as freshOrder, save as saveOrder, state, bad, saveInto, load as loadOrder}
+
+-- "the whole buffer afterwards in hexadecimal", if there is one
+abbrev pub bufferWords : List ℕ → List ℕ
+bufferWords [] = []
+bufferWords (b ∷ bs) = byte " " ∷ hex (b ∷ bs)
+
+-- The end of a line.
+abbrev pub newline : List ℕ
+newline = text "\n"
+
+-- "a line `handle k anchor length floor ceiling estimate`"
+unfoldable pub connectionLine : ℕ → Connection → List ℕ
+unfolding decimal spaced
+connectionLine h c = decimal h ++ spaced (c .k ∷ c .anchor ∷ c .length ∷ c .floor ∷ c .ceiling ∷ c .estimate ∷ []) ++ newline
+
+-- "for each live connection by rising handle", from handle h on
+unfoldable pub stateLines : ℕ → List Connection → List ℕ
+unfolding connectionLine
+stateLines h [] = []
+stateLines h (c ∷ cs) =
+    let later = stateLines (suc h) cs in
+    cond (c .live) (connectionLine h c ++ later) later
+
+-- A buffer of n bytes "that each hold A5 hexadecimal".
+abbrev pub blank : ℕ → List ℕ
+blank n = replicate n 165
+
+-- "`image`, one space and the image in lower-case hexadecimal"
+unfoldable pub imageLine : Schedule → List ℕ
+unfolding image hex
+imageLine s = text "image " ++ hex (image (s .connections)) ++ text "\n"
+
+-- "`saved` and the size, or `no 8`; then, if N is not 0, one space and the whole buffer afterwards in hexadecimal"
+unfoldable pub savedLine : Schedule → ℕ → List ℕ
+unfolding save wordsOf hex
+savedLine s n =
+    let w = save s (blank n) in
+    wordsOf (w .answer) ++ bufferWords (w .buffer) ++ text "\n"
+
+-- No line prints more.
+abbrev pub mostPrinted : ℕ
+mostPrinted = 8192
+
+-- All that is printed, with the end of each line; and the schedule.
+unfoldable pub performed : Schedule → Order → Printed
+unfolding heed fresh load imageLine savedLine stateLines wordsOf
+performed s (command c) =
+    let p = heed s (Says c) in
+    record { words = p .words ++ text "\n"; schedule = p .schedule }
+performed s freshOrder = record { words = text "ok\n"; schedule = fresh }
+performed s saveOrder = record { words = imageLine s; schedule = s }
+performed s state = record { words = stateLines 0 (s .connections) ++ text "end\n"; schedule = s }
+performed s bad = record { words = text "bad\n"; schedule = s }
+performed s (saveInto n) = record { words = savedLine s n; schedule = s }
+performed s (loadOrder bytes) =
+    let o = load s bytes in
+    record { words = wordsOf (o .answer) ++ text "\n"; schedule = o .schedule }

@@ -1,0 +1,201 @@
+//! What a line prints, and the schedule after it.
+ghost use mathlib.Core.Path.{_≡_};
+ghost use Prim.Native.Nat.{_+_, _*_, _≤_};
+ghost use mathlib.Core.List.{[], _∷_, _++_};
+ghost use lib.ListN.{length, replicate};
+ghost use Rattle.rules.specs.Decimal.{decimal};
+ghost use Rattle.rules.specs.Words.{spaced};
+ghost use Rattle.rules.specs.Good.{Good};
+ghost use Rattle.rules.specs.Ownership.{handles};
+ghost use Rattle.rules.specs.Answers.{ofSaving, ofLoading};
+ghost use Rattle.script.specs.Orders.{mostBuffer};
+ghost use Rattle.script.specs.Performing.{mostPrinted, newline, connectionLine, bufferWords, imageLine, savedLine};
+ghost use Rattle.script.specs.Promises.{PutsWithin, PutsState, PutsWords, Performs, SizeFits};
+use crate::Order;
+use crate::Performed;
+use crate::asking::order;
+use crate::hexing::put_hex;
+use command::obey;
+use image::load;
+use image::save;
+use line::put_reply;
+use rules::Connection;
+use rules::Loading;
+use rules::Saving;
+use rules::Schedule;
+use schedule::fresh;
+use text::put_decimal;
+use text::put_number;
+use text::put_word;
+use text::refusal_number;
+
+// Which blocks are whose: handle, k, anchor, length.
+fn put_run(out: &mut [u8], at: usize, handle: u8, c: Connection) -> usize
+    requires { ⌜ at + 24 ≤ length (now out) ⌝ }
+    ensures { λ r. ⌜ PutsWithin 24 (now (out .entry)) at (decimal handle ++ spaced (c .k ∷ c .anchor ∷ c .length ∷ [])) (now (out .exit)) r ⌝ }
+{
+    let a = put_decimal(out, at, handle as u32);
+    let b = put_number(out, a, c.k as u32);
+    let d = put_number(out, b, c.anchor as u32);
+    put_number(out, d, c.length as u32)
+}
+
+// What the length moves by: floor, ceiling, estimate.
+fn put_share(out: &mut [u8], at: usize, c: Connection) -> usize
+    requires { ⌜ at + 24 ≤ length (now out) ⌝ }
+    ensures { λ r. ⌜ PutsWithin 24 (now (out .entry)) at (spaced (c .floor ∷ c .ceiling ∷ c .estimate ∷ []) ++ newline) (now (out .exit)) r ⌝ }
+{
+    let a = put_number(out, at, c.floor as u32);
+    let b = put_number(out, a, c.ceiling as u32);
+    let d = put_number(out, b, c.estimate);
+    put_word(out, d, b"\n")
+}
+
+// The line of a live connection.
+fn put_connection(out: &mut [u8], at: usize, handle: u8, c: Connection) -> usize
+    requires { ⌜ at + 48 ≤ length (now out) ⌝ }
+    ensures { λ r. ⌜ PutsWithin 48 (now (out .entry)) at (connectionLine handle c) (now (out .exit)) r ⌝ }
+{
+    let a = put_run(out, at, handle, c);
+    put_share(out, a, c)
+}
+
+// The lines of the live connections, handles rising.
+fn put_state(out: &mut [u8], connections: [Connection; 64]) -> usize
+    requires { ⌜ (length connections ≡ handles) × (48 * handles ≤ length (now out)) ⌝ }
+    ensures { λ r. ⌜ PutsState connections (now (out .entry)) (now (out .exit)) r ⌝ }
+{
+    let mut next: usize = 0;
+    for h in 0..64 {
+        if connections[h].live {
+            next = put_connection(out, next, h as u8, connections[h]);
+        }
+    }
+    next
+}
+
+// Each byte holds A5 hexadecimal.
+fn blank(bytes: &mut [u8])
+    ensures { λ _. ⌜ now (bytes .exit) ≡ replicate (length (now (bytes .entry))) 165 ⌝ }
+{
+    for i in 0..bytes.len() {
+        bytes[i] = 165;
+    }
+}
+
+// A word and a number, from the start.
+fn put_count(out: &mut [u8], word: &[u8], n: u32) -> usize
+    requires { ⌜ length (now word) + 11 ≤ length (now out) ⌝ }
+    ensures { λ r. ⌜ PutsWithin (length (now (word .entry)) + 11) (now (out .entry)) 0 (now (word .entry) ++ spaced (n ∷ [])) (now (out .exit)) r ⌝ }
+{
+    let a = put_word(out, 0, word);
+    put_number(out, a, n)
+}
+
+// The words of a save's answer.
+fn put_saving(out: &mut [u8], answer: Saving) -> usize
+    requires { ⌜ SizeFits answer × (27 ≤ length (now out)) ⌝ }
+    ensures { λ r. ⌜ PutsWords (ofSaving answer) (now (out .entry)) (now (out .exit)) r ⌝ }
+{
+    match answer {
+        Saving::Size(size) => put_count(out, b"saved", size as u32),
+        Saving::Refused(r) => put_count(out, b"no", refusal_number(r)),
+    }
+}
+
+// The words of a load's answer.
+fn put_loading(out: &mut [u8], answer: Loading) -> usize
+    requires { ⌜ 27 ≤ length (now out) ⌝ }
+    ensures { λ r. ⌜ PutsWords (ofLoading answer) (now (out .entry)) (now (out .exit)) r ⌝ }
+{
+    match answer {
+        Loading::Count(n) => put_count(out, b"loaded", n as u32),
+        Loading::Refused(r) => put_count(out, b"no", refusal_number(r)),
+    }
+}
+
+// A space and the bytes of a buffer, if there are any.
+fn put_buffer(out: &mut [u8], at: usize, bytes: &[u8]) -> usize
+    requires { ⌜ at + 1 + 2 * length (now bytes) ≤ length (now out) ⌝ }
+    ensures { λ r. ⌜ PutsWithin (1 + 2 * length (now (bytes .entry))) (now (out .entry)) at (bufferWords (now (bytes .entry))) (now (out .exit)) r ⌝ }
+{
+    if bytes.len() == 0 {
+        return at;
+    }
+    let a = put_word(out, at, b" ");
+    put_hex(out, a, bytes)
+}
+
+// The image of a schedule, by way of a lent buffer.
+fn put_image(out: &mut [u8], s: Schedule, bytes: &mut [u8]) -> usize
+    requires { ⌜ Good s × (mostPrinted ≤ length (now out)) × (mostBuffer ≤ length (now bytes)) ⌝ }
+    ensures { λ r. ⌜ PutsWithin 4200 (now (out .entry)) 0 (imageLine s) (now (out .exit)) r ⌝ }
+{
+    let a = put_word(out, 0, b"image ");
+    let answer = save(s, bytes);
+    let Saving::Size(size) = answer else {
+        return a;
+    };
+    let b = put_hex(out, a, &bytes[..size]);
+    put_word(out, b, b"\n")
+}
+
+// A save into a buffer of so many bytes.
+fn put_saved(out: &mut [u8], s: Schedule, bytes: &mut [u8]) -> usize
+    requires { ⌜ Good s × (mostPrinted ≤ length (now out)) × (length (now bytes) ≤ mostBuffer) ⌝ }
+    ensures { λ r. ⌜ PutsWithin 4200 (now (out .entry)) 0 (savedLine s (length (now (bytes .entry)))) (now (out .exit)) r ⌝ }
+{
+    blank(bytes);
+    let answer = save(s, bytes);
+    let a = put_saving(out, answer);
+    let b = put_buffer(out, a, bytes);
+    put_word(out, b, b"\n")
+}
+
+/// Performs a line: writes what it prints from the buffer's start; the other buffer is for its bytes.
+pub fn perform(s: Schedule, line: &[u8], bytes: &mut [u8], out: &mut [u8]) -> Performed
+    requires { ⌜ Good s × (length (now line) ≤ 65536) × (32768 ≤ length (now bytes)) × (mostPrinted ≤ length (now out)) ⌝ }
+    ensures { λ r. ⌜ Performs s (now (line .entry)) (now (out .entry)) (now (out .exit)) r ⌝ }
+{
+    match order(line, bytes) {
+        Order::Command(command) => {
+            let done = obey(s, command);
+            let reply = done.reply;
+            let schedule = done.schedule;
+            let count = put_reply(out, 0, reply);
+            Performed { schedule, count }
+        }
+        Order::Fresh => {
+            let count = put_word(out, 0, b"ok\n");
+            let schedule = fresh();
+            Performed { schedule, count }
+        }
+        Order::Save => {
+            let count = put_image(out, s, bytes);
+            Performed { schedule: s, count }
+        }
+        Order::SaveInto(size) => {
+            let n = size as usize;
+            let count = put_saved(out, s, &mut bytes[..n]);
+            Performed { schedule: s, count }
+        }
+        Order::Load(n) => {
+            let done = load(s, &bytes[..n]);
+            let answer = done.answer;
+            let schedule = done.schedule;
+            let a = put_loading(out, answer);
+            let count = put_word(out, a, b"\n");
+            Performed { schedule, count }
+        }
+        Order::State => {
+            let connections = s.connections;
+            let a = put_state(out, connections);
+            let count = put_word(out, a, b"end\n");
+            Performed { schedule: s, count }
+        }
+        Order::Bad => {
+            let count = put_word(out, 0, b"bad\n");
+            Performed { schedule: s, count }
+        }
+    }
+}

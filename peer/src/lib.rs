@@ -1,0 +1,16 @@
+//! A second implementation of the scheduler, written from the rule sheet alone,
+//! to hold the proved one against it. It is brute force on purpose: nothing is
+//! kept but the connections, and everything else (who owns which block, the
+//! tree of taken blocks) is worked out anew from them each time it is asked for.
+//!
+//! * `schedule`: the connections, who owns a block, the tree, and the calls.
+//! * `image`: the image's bytes, written and read back with their checks.
+//! * `script`: the lines of text that drive it, and their answers.
+//! * `fault`: ten slips that can be planted, to show that a comparison finds them.
+
+#![forbid(unsafe_code)]
+
+pub mod fault;
+pub mod image;
+pub mod schedule;
+pub mod script;

@@ -1,0 +1,235 @@
+//! The script: lines of text that drive the schedule, and their answers.
+
+use crate::fault::Fault;
+use crate::image;
+use crate::schedule::{Moved, Refusal, Schedule};
+
+/// A script has at most this many bytes.
+pub const LONGEST_SCRIPT: usize = 65_536;
+/// `save N` lends at most this many bytes.
+pub const LARGEST_BUFFER: i64 = 2_048;
+/// What a lent buffer holds before.
+pub const FILLING: u8 = 0xA5;
+
+/// Runs a whole script and gives all that it prints.
+pub fn run(script: &[u8], fault: Fault) -> String {
+    if script.len() > LONGEST_SCRIPT {
+        return "long\n".to_string();
+    }
+    let mut session = Session::new(fault);
+    let mut printed = String::new();
+    for piece in script.split_inclusive(|&byte| byte == b'\n') {
+        match piece.strip_suffix(b"\n") {
+            Some(line) => printed += &session.line(line),
+            None => printed += "bad\n", // a tail without LF
+        }
+    }
+    printed
+}
+
+/// A schedule that is driven line by line.
+#[derive(Clone)]
+pub struct Session {
+    pub schedule: Schedule,
+}
+
+impl Session {
+    pub fn new(fault: Fault) -> Session {
+        Session { schedule: Schedule::fresh(fault) }
+    }
+
+    /// Carries out one line (without its LF) and gives what it prints.
+    pub fn line(&mut self, line: &[u8]) -> String {
+        let answer = self.answer(line).unwrap_or_else(|| "bad".to_string());
+        answer + "\n"
+    }
+
+    /// The answer to a good line; nothing for a bad one, which changes nothing.
+    fn answer(&mut self, line: &[u8]) -> Option<String> {
+        // Two spaces in a row, or one at either end, give an empty word here,
+        // and an empty word is neither a word nor a number of the language.
+        let mut words = line.split(|&byte| byte == b' ');
+        let word = words.next()?;
+        let rest: Vec<&[u8]> = words.collect();
+        if word == b"load" {
+            return self.load(&rest);
+        }
+
+        let mut numbers = Vec::new();
+        for digits in rest {
+            numbers.push(decimal(digits, self.schedule.fault)?);
+        }
+        let schedule = &mut self.schedule;
+        let answer = match (word, numbers.as_slice()) {
+            (b"admit", &[handle, interval, floor, ceiling]) => {
+                match schedule.admit(handle, interval, floor, ceiling) {
+                    Ok((factor, anchor, length)) => format!("ok {factor} {anchor} {length}"),
+                    Err(refusal) => no(refusal),
+                }
+            }
+            (b"drop", &[handle]) => match schedule.drop(handle) {
+                Ok(()) => "ok".to_string(),
+                Err(refusal) => no(refusal),
+            },
+            (b"report", &[handle, sample]) => match schedule.report(handle, sample) {
+                Ok((Moved::Kept, length)) => format!("kept {length}"),
+                Ok((Moved::Grown, length)) => format!("grown {length}"),
+                Ok((Moved::Shrunk, length)) => format!("shrunk {length}"),
+                Ok((Moved::Tight, length)) => format!("tight {length}"),
+                Err(refusal) => no(refusal),
+            },
+            (b"owner", &[block]) => match schedule.owner(block) {
+                Some(handle) => format!("owner {handle}"),
+                None => "idle".to_string(),
+            },
+            (b"anchor", &[handle, block]) => match schedule.anchor(handle, block) {
+                Ok(slots) => format!("slots {slots}"),
+                Err(refusal) => no(refusal),
+            },
+            (b"fresh", &[]) => {
+                *schedule = Schedule::fresh(schedule.fault);
+                "ok".to_string()
+            }
+            (b"save", &[]) => format!("image {}", hex(&image::image(schedule))),
+            (b"save", &[size]) if size <= LARGEST_BUFFER => save_into(schedule, size),
+            (b"state", &[]) => state(schedule),
+            _ => return None,
+        };
+        Some(answer)
+    }
+
+    /// `load` alone or `load HEX`.
+    fn load(&mut self, rest: &[&[u8]]) -> Option<String> {
+        let bytes = match rest {
+            [] => Vec::new(),
+            [digits] => unhex(digits)?,
+            _ => return None,
+        };
+        match image::load(&bytes, self.schedule.fault) {
+            Ok(loaded) => {
+                self.schedule = loaded;
+                Some(format!("loaded {}", self.schedule.live().count()))
+            }
+            Err(refusal) => Some(no(refusal)),
+        }
+    }
+}
+
+/// `save N`: the answer, and the whole buffer afterwards if there is one.
+fn save_into(schedule: &Schedule, size: i64) -> String {
+    let mut buffer = vec![FILLING; size as usize];
+    let answer = match image::save(schedule, &mut buffer) {
+        Ok(size) => format!("saved {size}"),
+        Err(refusal) => no(refusal),
+    };
+    if buffer.is_empty() {
+        answer
+    } else {
+        format!("{answer} {}", hex(&buffer))
+    }
+}
+
+/// `state`: a line for each live connection, then `end`.
+fn state(schedule: &Schedule) -> String {
+    let mut lines = String::new();
+    for (handle, c) in schedule.live() {
+        lines += &format!(
+            "{handle} {} {} {} {} {} {}\n",
+            c.k, c.anchor, c.length, c.floor, c.ceiling, c.estimate
+        );
+    }
+    lines + "end"
+}
+
+fn no(refusal: Refusal) -> String {
+    format!("no {refusal}")
+}
+
+/// A decimal number: digits only, no leading zero save `0`, at most 2^32 − 1.
+fn decimal(digits: &[u8], fault: Fault) -> Option<i64> {
+    let mut digits = digits;
+    if fault == Fault::LeadingZero {
+        while digits.len() > 1 && digits[0] == b'0' {
+            digits = &digits[1..];
+        }
+    }
+    if digits.is_empty() || digits.len() > 10 || !digits.iter().all(u8::is_ascii_digit) {
+        return None;
+    }
+    if digits[0] == b'0' && digits.len() > 1 {
+        return None;
+    }
+    let value = digits.iter().fold(0, |value, &digit| 10 * value + i64::from(digit - b'0'));
+    if value <= i64::from(u32::MAX) {
+        Some(value)
+    } else {
+        None
+    }
+}
+
+/// Bytes as lower-case hexadecimal digits.
+pub fn hex(bytes: &[u8]) -> String {
+    bytes.iter().map(|byte| format!("{byte:02x}")).collect()
+}
+
+/// One pair or more of lower-case hexadecimal digits as bytes.
+fn unhex(digits: &[u8]) -> Option<Vec<u8>> {
+    let value = |digit: u8| match digit {
+        b'0'..=b'9' => Some(digit - b'0'),
+        b'a'..=b'f' => Some(digit - b'a' + 10),
+        _ => None,
+    };
+    if digits.is_empty() || digits.len() % 2 == 1 {
+        return None;
+    }
+    digits.chunks(2).map(|pair| Some(16 * value(pair[0])? + value(pair[1])?)).collect()
+}
+
+#[cfg(test)]
+mod tests {
+    use super::*;
+
+    fn right(script: &str) -> String {
+        run(script.as_bytes(), Fault::None)
+    }
+
+    #[test]
+    fn whole_case() {
+        let input = "admit 0 48 1 4\nadmit 1 48 1 1\nreport 0 7500\nowner 9\nowner 7\n\
+                     anchor 1 6\nadmit 2 6 1 1\ndrop 5\n";
+        let output = "ok 8 0 1\nok 8 4 1\ngrown 2\nowner 0\nidle\nslots 36\nno 6\nno 3\n";
+        assert_eq!(right(input), output);
+    }
+
+    #[test]
+    fn sizes_of_scripts() {
+        assert_eq!(right(""), "");
+        assert_eq!(right("\n"), "bad\n");
+        assert_eq!(right("drop 0"), "bad\n");
+        assert_eq!(right(&"\n".repeat(65_536)), "bad\n".repeat(65_536));
+        assert_eq!(right(&"\n".repeat(65_537)), "long\n");
+    }
+
+    #[test]
+    fn numbers() {
+        assert_eq!(right("owner 4294967295\nowner 4294967296\n"), "idle\nbad\n");
+        assert_eq!(right("owner 0\nowner 00\nowner 01\nowner -1\n"), "idle\nbad\nbad\nbad\n");
+        assert_eq!(right("owner 18446744073709551616\nowner \nowner\n"), "bad\nbad\nbad\n");
+        assert_eq!(right("drop 64\ndrop 4294967295\n"), "no 1\nno 1\n");
+        assert_eq!(right(" owner 0\nowner  0\nowner 0 \nowner 0\r\n"), "bad\n".repeat(4));
+    }
+
+    #[test]
+    fn the_lines_beside_the_commands() {
+        assert_eq!(right("fresh\nfresh 0\nstate\nstate \n"), "ok\nbad\nend\nbad\n");
+        assert_eq!(right("save 0\nsave 2\nsave 2049\n"), "no 8\nno 8 a5a5\nbad\n");
+        assert_eq!(right("load\nload \nload 0\nload 00\nload AA\n"), "no 9\nbad\nbad\nno 9\nbad\n");
+        let empty = "02000100000080000300".to_string() + &"00".repeat(128);
+        assert_eq!(right("save\n"), format!("image {empty}\n"));
+        assert_eq!(right("save 139\n"), format!("saved 138 {empty}a5\n"));
+        assert_eq!(
+            right(&format!("admit 9 48 2 3\nstate\nload {empty}\nstate\n")),
+            "ok 8 0 2\n9 3 0 2 2 3 12500\nend\nloaded 0\nend\n"
+        );
+    }
+}
