@@ -7,21 +7,16 @@ use lib.ListN.{length}
 use Rattle.rules.specs.Answers.{Answer, ok}
 use Rattle.rules.specs.Text.{text}
 use Rattle.rules.specs.Words.{spaced, wordsOf}
-use Rattle.rules.proofs.DecimalLaws.{decimal-length}
 use Rattle.text.specs.Promises.{Puts}
-use Rattle.text.proofs.Putting.{puts-after, puts-number, spaced-length}
+use Rattle.text.proofs.Putting.{puts-after, three-numbers}
 use Rattle.line.specs.Promises.{PutsLine, PutsAnswer}
 
 -- Equal answers have the same line.
 pub answer-as : {entry exit : List ℕ} {start next : ℕ} {a b : Answer} → a ≡ b → PutsAnswer entry start a exit next → PutsAnswer entry start b exit next
 answer-as {entry} {exit} {start} {next} e p = subst (λ (x : Answer). PutsAnswer entry start x exit next) e p
 
--- A number below 10^(k+1), with its space, has k + 2 bytes at most.
-pub number-room : (k n : ℕ) → n < 10 ^ suc k → length (spaced (n ∷ [])) ≤ k + 2
-number-room k n h = omega (arith, spaced-length n, decimal-length k n h)
-
 -- Three numbers after `ok`.
 pub placed-line : {l b c d e z : List ℕ} {start i j k m n : ℕ} (F A L : ℕ) → Puts l start (text "ok") b i → Puts b i (spaced (F ∷ [])) c j
     → Puts c j (spaced (A ∷ [])) d k → Puts d k (spaced (L ∷ [])) e m → Puts e m (text "\n") z n → PutsLine l start (wordsOf (ok F A L)) z n
 unfolding wordsOf
-placed-line F A L p q r s t = puts-after (puts-number (text "ok") (F ∷ A ∷ []) L (puts-number (text "ok") (F ∷ []) A (puts-after p q) r) s) t
+placed-line F A L p q r s t = puts-after (three-numbers (text "ok") F A L p q r s) t

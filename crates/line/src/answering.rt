@@ -13,18 +13,18 @@ use rules::Ownership;
 use rules::Refusal;
 use rules::Reply;
 use rules::Reporting;
+use text::put_count;
 use text::put_number;
 use text::put_word;
 use text::refusal_number;
 
-// A word and a number.
+// The line of a word and a number.
 fn put_with(out: &mut [u8], at: usize, word: &[u8], n: u32) -> usize
     requires { ⌜ at + (length (now word) + 12) ≤ length (now out) ⌝ }
     ensures { λ r. ⌜ PutsLine (now (out .entry)) at (now (word .entry) ++ spaced (n ∷ [])) (now (out .exit)) r × (r ≤ at + (length (now (word .entry)) + 12)) ⌝ }
 {
-    let a = put_word(out, at, word);
-    let b = put_number(out, a, n);
-    put_word(out, b, b"\n")
+    let a = put_count(out, at, word, n);
+    put_word(out, a, b"\n")
 }
 
 fn put_refused(out: &mut [u8], at: usize, r: Refusal) -> usize

@@ -12,7 +12,7 @@ use Rattle.rules.specs.Answers.{Outcome, ofReply, ofLoading}
 use Rattle.rules.specs.Text.{text}
 use Rattle.rules.specs.Words.{wordsOf}
 use Rattle.rules.specs.Program.{heed}
-use Rattle.text.specs.Promises.{Puts}
+use Rattle.text.specs.Promises.{Puts, PutsWithin}
 use Rattle.text.proofs.Putting.{puts-after}
 use Rattle.line.specs.Promises.{PutsAnswer}
 use Rattle.schedule.specs.Promises.{Starts}
@@ -21,7 +21,7 @@ use Rattle.command.specs.Promises.{Obeys}
 use Rattle.script.specs.declared.Order.{Order as Ordered}
 use Rattle.script.specs.Orders.{Order, command, fresh as freshOrder, save, state, bad, saveInto, load as loadOrder, asks}
 use Rattle.script.specs.Performing.{mostPrinted, newline, imageLine, savedLine, performed}
-use Rattle.script.specs.Promises.{ofOrder, Within, Asks, PutsWithin, PutsWords, PutsState, Performs}
+use Rattle.script.specs.Promises.{ofOrder, Within, Asks, PutsWords, PutsState, Performs}
 use Rattle.script.proofs.Printing.{puts-as}
 
 -- What a line asks for, by the case that was answered.

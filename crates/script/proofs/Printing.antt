@@ -14,16 +14,11 @@ use Rattle.rules.specs.Answers.{Answer}
 use Rattle.rules.specs.Decimal.{decimal}
 use Rattle.rules.specs.Text.{text}
 use Rattle.rules.specs.Words.{spaced}
-use Rattle.text.specs.Promises.{Puts}
-use Rattle.text.proofs.Putting.{puts-after, puts-number, spaced-append}
+use Rattle.text.specs.Promises.{Puts, PutsWithin}
+use Rattle.text.proofs.Putting.{puts-after, spaced-append}
 use Rattle.script.specs.Hex.{hex}
 use Rattle.script.specs.Performing.{newline, connectionLine, stateLines, bufferWords}
-use Rattle.script.specs.Promises.{PutsWithin, PutsWords}
-
--- Three numbers after a word.
-pub three-numbers : {l b c d e : List ℕ} {start i j k m : ℕ} (word : List ℕ) (x y z : ℕ) → Puts l start word b i → Puts b i (spaced (x ∷ [])) c j
-    → Puts c j (spaced (y ∷ [])) d k → Puts d k (spaced (z ∷ [])) e m → Puts l start (word ++ spaced (x ∷ y ∷ z ∷ [])) e m
-three-numbers word x y z p q r s = puts-number word (x ∷ y ∷ []) z (puts-number word (x ∷ []) y (puts-after p q) r) s
+use Rattle.script.specs.Promises.{PutsWords}
 
 -- The line of a connection: its run, then its share.
 pub connection-line : {l b z : List ℕ} {start i n : ℕ} (h : ℕ) (c : Connection) → Puts l start (decimal h ++ spaced (c .k ∷ c .anchor ∷ c .length ∷ [])) b i

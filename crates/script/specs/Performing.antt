@@ -46,14 +46,14 @@ blank n = replicate n 165
 -- "`image`, one space and the image in lower-case hexadecimal"
 unfoldable pub imageLine : Schedule → List ℕ
 unfolding image hex
-imageLine s = text "image " ++ hex (image (s .connections)) ++ text "\n"
+imageLine s = text "image " ++ hex (image (s .connections)) ++ newline
 
 -- "`saved` and the size, or `no 8`; then, if N is not 0, one space and the whole buffer afterwards in hexadecimal"
 unfoldable pub savedLine : Schedule → ℕ → List ℕ
 unfolding save wordsOf hex
 savedLine s n =
     let w = save s (blank n) in
-    wordsOf (w .answer) ++ bufferWords (w .buffer) ++ text "\n"
+    wordsOf (w .answer) ++ bufferWords (w .buffer) ++ newline
 
 -- No line prints more.
 abbrev pub mostPrinted : ℕ
@@ -64,7 +64,7 @@ unfoldable pub performed : Schedule → Order → Printed
 unfolding heed fresh load imageLine savedLine stateLines wordsOf
 performed s (command c) =
     let p = heed s (Says c) in
-    record { words = p .words ++ text "\n"; schedule = p .schedule }
+    record { words = p .words ++ newline; schedule = p .schedule }
 performed s freshOrder = record { words = text "ok\n"; schedule = fresh }
 performed s saveOrder = record { words = imageLine s; schedule = s }
 performed s state = record { words = stateLines 0 (s .connections) ++ text "end\n"; schedule = s }
@@ -72,4 +72,4 @@ performed s bad = record { words = text "bad\n"; schedule = s }
 performed s (saveInto n) = record { words = savedLine s n; schedule = s }
 performed s (loadOrder bytes) =
     let o = load s bytes in
-    record { words = wordsOf (o .answer) ++ text "\n"; schedule = o .schedule }
+    record { words = wordsOf (o .answer) ++ newline; schedule = o .schedule }

@@ -11,7 +11,7 @@ use Rattle.rules.specs.declared.Saving.the-variants.{Size, Refused}
 use Rattle.rules.specs.Good.{Good}
 use Rattle.rules.specs.Answers.{Answer}
 use Rattle.rules.specs.Words.{wordsOf}
-use Rattle.text.specs.Promises.{Puts}
+use Rattle.text.specs.Promises.{Puts, PutsWithin}
 use Rattle.script.specs.declared.Performed.{Performed}
 use Rattle.script.specs.Performing.{mostPrinted, stateLines, performed}
 use Rattle.script.specs.declared.Nibble.{Nibble}
@@ -61,11 +61,6 @@ pub record Asks (line buffer : List ℕ) (r : Ordered) : Type 0 where
 -- The same with any buffer, as a save's line holds no bytes.
 abbrev pub AsksSave : List ℕ → Ordered → Type 0
 AsksSave line r = (buffer : List ℕ) → Asks line buffer r
-
--- Bytes are put, and so many at most.
-pub record PutsWithin (most : ℕ) (entry : List ℕ) (at : ℕ) (bytes exit : List ℕ) (next : ℕ) : Type 0 where
-  pub puts : Puts entry at bytes exit next
-  pub room : next ≤ at + most
 
 -- The words of an answer, and the state's lines, from the start.
 abbrev pub PutsWords : Answer → List ℕ → List ℕ → ℕ → Type 0

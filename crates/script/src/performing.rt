@@ -8,9 +8,10 @@ ghost use Rattle.rules.specs.Words.{spaced};
 ghost use Rattle.rules.specs.Good.{Good};
 ghost use Rattle.rules.specs.Ownership.{handles};
 ghost use Rattle.rules.specs.Answers.{ofSaving, ofLoading};
+ghost use Rattle.text.specs.Promises.{PutsWithin};
 ghost use Rattle.script.specs.Orders.{mostBuffer};
 ghost use Rattle.script.specs.Performing.{mostPrinted, newline, connectionLine, bufferWords, imageLine, savedLine};
-ghost use Rattle.script.specs.Promises.{PutsWithin, PutsState, PutsWords, Performs, SizeFits};
+ghost use Rattle.script.specs.Promises.{PutsState, PutsWords, Performs, SizeFits};
 use crate::Order;
 use crate::Performed;
 use crate::asking::order;
@@ -24,6 +25,7 @@ use rules::Loading;
 use rules::Saving;
 use rules::Schedule;
 use schedule::fresh;
+use text::put_count;
 use text::put_decimal;
 use text::put_number;
 use text::put_word;
@@ -83,23 +85,14 @@ fn blank(bytes: &mut [u8])
     }
 }
 
-// A word and a number, from the start.
-fn put_count(out: &mut [u8], word: &[u8], n: u32) -> usize
-    requires { ⌜ length (now word) + 11 ≤ length (now out) ⌝ }
-    ensures { λ r. ⌜ PutsWithin (length (now (word .entry)) + 11) (now (out .entry)) 0 (now (word .entry) ++ spaced (n ∷ [])) (now (out .exit)) r ⌝ }
-{
-    let a = put_word(out, 0, word);
-    put_number(out, a, n)
-}
-
 // The words of a save's answer.
 fn put_saving(out: &mut [u8], answer: Saving) -> usize
     requires { ⌜ SizeFits answer × (27 ≤ length (now out)) ⌝ }
     ensures { λ r. ⌜ PutsWords (ofSaving answer) (now (out .entry)) (now (out .exit)) r ⌝ }
 {
     match answer {
-        Saving::Size(size) => put_count(out, b"saved", size as u32),
-        Saving::Refused(r) => put_count(out, b"no", refusal_number(r)),
+        Saving::Size(size) => put_count(out, 0, b"saved", size as u32),
+        Saving::Refused(r) => put_count(out, 0, b"no", refusal_number(r)),
     }
 }
 
@@ -109,8 +102,8 @@ fn put_loading(out: &mut [u8], answer: Loading) -> usize
     ensures { λ r. ⌜ PutsWords (ofLoading answer) (now (out .entry)) (now (out .exit)) r ⌝ }
 {
     match answer {
-        Loading::Count(n) => put_count(out, b"loaded", n as u32),
-        Loading::Refused(r) => put_count(out, b"no", refusal_number(r)),
+        Loading::Count(n) => put_count(out, 0, b"loaded", n as u32),
+        Loading::Refused(r) => put_count(out, 0, b"no", refusal_number(r)),
     }
 }
 

@@ -1,14 +1,14 @@
 -- Bytes put one after the other.
 use mathlib.Core.Path.{_≡_, refl, sym, ap, subst, _∙_}
 use mathlib.Core.List.{List, [], _∷_, _++_, append-nil, append-assoc}
-use Prim.Native.Nat.{ℕ, suc, _+_, _/_, _%_, _<_, _≤_}
+use Prim.Native.Nat.{ℕ, suc, _+_, _/_, _%_, _^_, _<_, _≤_}
 use native.Mathlib.Omega.{arith}
 use lib.ListN.{length, getD, take, set, length-append}
 use lib.Seq.{length-sets, take-suc}
 use Rattle.rules.specs.Decimal.{decimal}
 use Rattle.rules.specs.Words.{spaced}
 use Rattle.rules.proofs.StoreLaws.{put-after}
-use Rattle.rules.proofs.DecimalLaws.{decimal-one, decimal-more}
+use Rattle.rules.proofs.DecimalLaws.{decimal-one, decimal-more, decimal-length}
 use Rattle.text.specs.Promises.{Puts}
 
 -- What is put second, from where the first ends on.
@@ -64,6 +64,10 @@ puts-spaced l b start n next p = rw (spaced-one n) (puts-after (puts-byte l star
 pub spaced-length : (n : ℕ) → length (spaced (n ∷ [])) ≡ length (decimal n) + 1
 spaced-length n = ap (λ (x : List ℕ). length x) (spaced-one n) ∙ omega arith
 
+-- Of a number below 10^(k+1) these are k + 2 bytes at most.
+pub number-room : (k n : ℕ) → n < 10 ^ suc k → length (spaced (n ∷ [])) ≤ k + 2
+number-room k n h = omega (arith, spaced-length n, decimal-length k n h)
+
 -- One number more after others.
 pub spaced-append : (ns ms : List ℕ) → spaced (ns ++ ms) ≡ spaced ns ++ spaced ms
 unfolding spaced
@@ -75,3 +79,8 @@ pub puts-number : {l b c : List ℕ} {start i j : ℕ} (word ns : List ℕ) (n :
     → Puts l start (word ++ spaced (ns ++ (n ∷ []))) c j
 puts-number {l} {c = c} {start} {j = j} word ns n p q =
     subst (λ (x : List ℕ). Puts l start x c j) (append-assoc word (spaced ns) (spaced (n ∷ [])) ∙ ap (λ (x : List ℕ). word ++ x) (sym (spaced-append ns (n ∷ [])))) (puts-after p q)
+
+-- Three numbers after a word.
+pub three-numbers : {l b c d e : List ℕ} {start i j k m : ℕ} (word : List ℕ) (x y z : ℕ) → Puts l start word b i → Puts b i (spaced (x ∷ [])) c j
+    → Puts c j (spaced (y ∷ [])) d k → Puts d k (spaced (z ∷ [])) e m → Puts l start (word ++ spaced (x ∷ y ∷ z ∷ [])) e m
+three-numbers word x y z p q r s = puts-number word (x ∷ y ∷ []) z (puts-number word (x ∷ []) y (puts-after p q) r) s

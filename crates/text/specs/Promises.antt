@@ -1,5 +1,5 @@
 -- What the reading and writing of a text promises.
-use Prim.Native.Nat.{ℕ, _+_}
+use Prim.Native.Nat.{ℕ, _+_, _≤_}
 use mathlib.Core.Path.{_≡_}
 use mathlib.Core.Bool.{cond}
 use mathlib.Core.List.{List}
@@ -22,3 +22,8 @@ pub record Reads (count : ℕ) (rest : List ℕ) (r : Numbers) : Type 0 where
 pub record Puts (entry : List ℕ) (at : ℕ) (bytes exit : List ℕ) (next : ℕ) : Type 0 where
   pub stored : exit ≡ sets entry at bytes
   pub ends : next ≡ at + length bytes
+
+-- Bytes are put, and so many at most.
+pub record PutsWithin (most : ℕ) (entry : List ℕ) (at : ℕ) (bytes exit : List ℕ) (next : ℕ) : Type 0 where
+  pub puts : Puts entry at bytes exit next
+  pub room : next ≤ at + most

@@ -6,6 +6,7 @@ mod writing;
 pub use reading::find;
 pub use reading::numbers_from;
 pub use reading::opens;
+pub use writing::put_count;
 pub use writing::put_decimal;
 pub use writing::put_number;
 pub use writing::put_word;

@@ -1,12 +1,12 @@
 //! Words and numbers, written at a place; each answers the place after it.
 ghost use Prim.Native.Nat.{_+_, _≤_};
-ghost use mathlib.Core.List.{[], _∷_};
+ghost use mathlib.Core.List.{[], _∷_, _++_};
 ghost use lib.ListN.{length};
 ghost use mathlib.Core.Path.{_≡_};
 ghost use Rattle.rules.specs.Refusals.{number};
 ghost use Rattle.rules.specs.Decimal.{decimal};
 ghost use Rattle.rules.specs.Words.{spaced};
-ghost use Rattle.text.specs.Promises.{Puts};
+ghost use Rattle.text.specs.Promises.{Puts, PutsWithin};
 use rules::Refusal;
 
 /// Words as they are.
@@ -41,6 +41,15 @@ pub fn put_number(out: &mut [u8], at: usize, n: u32) -> usize
 {
     out[at] = b' ';
     put_decimal(out, at + 1, n)
+}
+
+/// A word and a number.
+pub fn put_count(out: &mut [u8], at: usize, word: &[u8], n: u32) -> usize
+    requires { ⌜ at + (length (now word) + 11) ≤ length (now out) ⌝ }
+    ensures { λ r. ⌜ PutsWithin (length (now (word .entry)) + 11) (now (out .entry)) at (now (word .entry) ++ spaced (n ∷ [])) (now (out .exit)) r ⌝ }
+{
+    let a = put_word(out, at, word);
+    put_number(out, a, n)
 }
 
 /// The table's number of a refusal.

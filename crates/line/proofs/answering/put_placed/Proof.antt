@@ -1,8 +1,8 @@
 -- `line::put_placed` meets its contract: the word, three numbers, the end of the line.
 use borrow.Author.Needs.{needs}
 use native.Mathlib.Omega.{arith}
-use Rattle.text.proofs.Putting.{puts-after, puts-length}
-use Rattle.line.proofs.Lines.{number-room, placed-line}
+use Rattle.text.proofs.Putting.{puts-after, puts-length, number-room}
+use Rattle.line.proofs.Lines.{placed-line}
 use Rattle.line.proofs.answering.put_placed.Statement.{statement}
 use Rattle.line.proofs.answering.put_placed.Tie as tie
 

@@ -2,9 +2,7 @@
 use borrow.Author.Needs.{needs}
 use native.Mathlib.Omega.{arith}
 use mathlib.Core.List.{[]}
-use Rattle.text.proofs.Putting.{puts-after, puts-nothing, puts-length}
-use Rattle.line.proofs.Lines.{number-room}
-use Rattle.script.proofs.Printing.{three-numbers}
+use Rattle.text.proofs.Putting.{puts-after, puts-nothing, puts-length, number-room, three-numbers}
 use Rattle.script.proofs.performing.put_share.Statement.{statement}
 use Rattle.script.proofs.performing.put_share.Tie as tie
 

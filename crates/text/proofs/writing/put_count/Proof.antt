@@ -1,11 +1,10 @@
--- `script::put_count` meets its contract: the word, then the number.
+-- `text::put_count` meets its contract: the word, then the number.
 use borrow.Author.Needs.{needs}
 use mathlib.Core.Path.{_∙_}
 use native.Mathlib.Omega.{arith}
-use Rattle.text.proofs.Putting.{puts-after, puts-length}
-use Rattle.line.proofs.Lines.{number-room}
-use Rattle.script.proofs.performing.put_count.Statement.{statement}
-use Rattle.script.proofs.performing.put_count.Tie as tie
+use Rattle.text.proofs.Putting.{puts-after, puts-length, number-room}
+use Rattle.text.proofs.writing.put_count.Statement.{statement}
+use Rattle.text.proofs.writing.put_count.Tie as tie
 
 put-word-requires : tie.Need-put-word-requires
 put-word-requires c κs = search needs
