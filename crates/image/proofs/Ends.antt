@@ -1,14 +1,15 @@
 -- The last 128 bytes of an image beside those of a tree, place by place.
 use mathlib.Core.Path.{_≡_, sym, ap, ap₂, _∙_}
-use mathlib.Core.Bool.{true, false}
+use mathlib.Core.Bool.{true, _&&_}
 use mathlib.Core.List.{List}
 use Prim.Native.Nat.{ℕ, _+_, _<_}
 use native.Mathlib.Nat.{add-zero}
 use native.Mathlib.Omega.{arith}
+use lib.Dec.{eqb}
 use lib.ListN.{length, getD, take, drop, length-drop}
 use lib.Seq.{take-all, drop-length}
 use Rattle.rules.specs.Bytes.{same}
-use Rattle.rules.proofs.BytesLaws.{same-turn, same-differs}
+use Rattle.rules.proofs.BytesLaws.{same-here}
 
 module _ (bytes tree : List ℕ) (start : ℕ) (e : start + 128 ≡ length bytes) (n : length tree ≡ 128) where
   pub ends-start : same (take 128 (drop start bytes)) tree ≡ same (drop (start + 0) bytes) tree
@@ -16,13 +17,11 @@ module _ (bytes tree : List ℕ) (start : ℕ) (e : start + 128 ≡ length bytes
       ap (λ (x : List ℕ). same x tree) (take-all 128 (drop start bytes) (simp length-drop (omega arith)))
       ∙ ap (λ (k : ℕ). same (drop k bytes) tree) (sym (add-zero start))
 
-  pub ends-turn : (i : ℕ) → i < 128 → getD bytes (start + i) 0 ≡ getD tree i 0 → same (drop (start + i) bytes) (drop i tree) ≡ same (drop (start + (i + 1)) bytes) (drop (i + 1) tree)
-  ends-turn i h q =
+  pub ends-turn : (i : ℕ) → i < 128 → same (drop (start + i) bytes) (drop i tree) ≡ (eqb (getD bytes (start + i) 0) (getD tree i 0) && same (drop (start + (i + 1)) bytes) (drop (i + 1) tree))
+  ends-turn i h =
       let a : start + i + 1 ≡ start + (i + 1) = omega arith in
-      same-turn bytes tree (start + i) i (omega arith) (omega arith) q ∙ ap (λ (k : ℕ). same (drop k bytes) (drop (i + 1) tree)) a
-
-  pub ends-differ : (i : ℕ) → i < 128 → (getD bytes (start + i) 0 ≡ getD tree i 0 → ⊥) → same (drop (start + i) bytes) (drop i tree) ≡ false
-  ends-differ i h = same-differs bytes tree (start + i) i (omega arith) (omega arith)
+      same-here bytes tree (start + i) i (omega arith) (omega arith)
+      ∙ ap (λ (k : ℕ). eqb (getD bytes (start + i) 0) (getD tree i 0) && same (drop k bytes) (drop (i + 1) tree)) a
 
   pub ends-all : (i : ℕ) → i ≡ 128 → same (drop (start + i) bytes) (drop i tree) ≡ true
   unfolding same

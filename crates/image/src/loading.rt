@@ -14,17 +14,16 @@ use rules::Loading;
 use rules::Refusal;
 use rules::Schedule;
 
-// Whether the last bytes of the image are the tree's.
+// Whether the last bytes of the image are the tree's; all are compared, which a machine does many at a time.
 fn ends_with(bytes: &[u8], at: usize, tree: &[u8; 128]) -> bool
     requires { ⌜ (at + 128 ≡ length (now bytes)) × (length (now tree) ≡ 128) ⌝ }
     ensures { λ r. ⌜ r ≡ same (take 128 (drop at (now (bytes .entry)))) (now (tree .entry)) ⌝ }
 {
+    let mut same = true;
     for i in 0..128 {
-        if bytes[at + i] != tree[i] {
-            return false;
-        }
+        same = same & (bytes[at + i] == tree[i]);
     }
-    true
+    same
 }
 
 /// The schedule of an image, in place of the old one, and how many connections it has.

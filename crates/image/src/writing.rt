@@ -25,7 +25,7 @@ fn put_run(buffer: &mut [u8], at: usize, handle: usize, c: Connection)
 {
     put_number(buffer, at, 1, handle as u32);
     put_number(buffer, at + 1, 1, c.k as u32);
-    put_number(buffer, at + 2, 2, c.anchor as u32);
+    put_number(buffer, at + 2, 2, c.anchor);
     put_number(buffer, at + 4, 2, c.length as u32);
 }
 

@@ -1,9 +1,7 @@
 -- The line of an answer, put piece by piece.
 use mathlib.Core.Path.{_≡_, subst}
 use mathlib.Core.List.{List, [], _∷_}
-use Prim.Native.Nat.{ℕ, suc, _+_, _^_, _<_, _≤_}
-use native.Mathlib.Omega.{arith}
-use lib.ListN.{length}
+use Prim.Native.Nat.{ℕ}
 use Rattle.rules.specs.Answers.{Answer, ok}
 use Rattle.rules.specs.Text.{text}
 use Rattle.rules.specs.Words.{spaced, wordsOf}

@@ -1,7 +1,7 @@
 -- What the search for a place promises.
 use Prim.Native.Nat.{ℕ, _+_, _^_, _<_}
 use mathlib.Core.Path.{_≡_}
-use mathlib.Core.Bool.{Bool, false}
+use mathlib.Core.Bool.{Bool, true, false}
 use mathlib.Core.List.{List}
 use lib.ListN.{length, getD}
 use Rattle.rules.specs.declared.Place.{Place}
@@ -30,9 +30,18 @@ pub record Reads (k : ℕ) (tree : List ℕ) (taken : List Bool) (anchors : List
   pub order : Anchors k anchors
   pub bits : (A : ℕ) → A < 2 ^ k → getD taken A false ≡ bitAt tree (2 ^ k + mirrored k A)
 
--- The first open anchor, by the row of what is taken.
-abbrev pub Searches : ℕ → ℕ → List Bool → Place → Type 0
-Searches k floor row r = (taken : ℕ → Bool) → Row k taken row → ofPlace r ≡ placeStep taken k floor
+-- From each class of depth k on, so many are free, up to the last of the depth; none where it is taken.
+pub record Stretches (k : ℕ) (taken : ℕ → Bool) (room : List ℕ) : Type 0 where
+  pub shut : (A : ℕ) → A < 2 ^ k → getD room A 0 ≡ 0 → classTaken taken k A ≡ true
+  pub clear : (A i : ℕ) → A < 2 ^ k → i < getD room A 0 → (A + i < 2 ^ k) × (classTaken taken k (A + i) ≡ false)
+
+-- By the row of what is taken.
+abbrev pub Measures : ℕ → List Bool → List ℕ → Type 0
+Measures k row room = (taken : ℕ → Bool) → Row k taken row → Stretches k taken room
+
+-- The first open anchor, by the stretches of what is free.
+abbrev pub Searches : ℕ → ℕ → List ℕ → Place → Type 0
+Searches k floor room r = (taken : ℕ → Bool) → Stretches k taken room → ofPlace r ≡ placeStep taken k floor
 
 -- The first open anchor, by the tree of what is taken.
 abbrev pub Places : ℕ → ℕ → List ℕ → Place → Type 0

@@ -1,9 +1,10 @@
 //! Where an admission goes: checks 2, 4, 5, 6 and the search for an anchor.
 ghost use mathlib.Core.Path.{_≡_};
-ghost use Prim.Native.Nat.{_≤_, _^_};
+ghost use Prim.Native.Nat.{_<_, _≤_, _^_};
+ghost use lib.ListN.{length};
 ghost use Rattle.rules.specs.Classes.{depth};
 ghost use Rattle.rules.specs.Steps.{ofInterval, ofShare, intervalStep, shareStep};
-ghost use Rattle.place.specs.Promises.{Anchors, Reads, Searches, Places, Plans, Long};
+ghost use Rattle.place.specs.Promises.{Anchors, Reads, Measures, Searches, Places, Plans, Long};
 use rules::Interval;
 use rules::Place;
 use rules::Plan;
@@ -46,31 +47,62 @@ fn share_of(floor: u32, ceiling: u32, f: u32) -> Share
     Share::Fits
 }
 
-// The classes of a depth in counting order, taken or not, and its anchors in node order: one mirror a node.
+// The classes of a depth in counting order, taken or not, and its anchors in node order. An anchor is that of half its
+// place, moved down a bit, with the place's last bit on top.
 fn read_depth(tree: &[u8; 128], k: u32, taken: &mut [bool; 512], anchors: &mut [u16; 512])
     requires { ⌜ (k ≤ depth) × Long (now taken) (now anchors) ⌝ }
     ensures { λ _. ⌜ Reads k (now (tree .entry)) (now (taken .exit)) (now (anchors .exit)) ⌝ }
 {
     let f = factor(k);
-    for p in 0..f {
-        let a = tree::mirror(k, p);
+    anchors[0] = 0;
+    taken[0] = tree::is_set(tree, f as usize);
+    for p in 1..f {
+        let half = anchors[(p >> 1) as usize] as u32 >> 1;
+        let a = half + ((p & 1) << (k - 1));
         anchors[p as usize] = a as u16;
         taken[a as usize] = tree::is_set(tree, (f + p) as usize);
     }
 }
 
-// The first anchor in node order whose whole run is free.
-fn search(taken: &[bool; 512], anchors: &[u16; 512], k: u32, floor: u32) -> Place
+// How many classes are free from each one on, up to the last of the depth; none where it is taken.
+fn measure(taken: &[bool; 512], k: u32, room: &mut [u16; 512])
+    requires { ⌜ (k ≤ depth) × (length (now room) ≡ 512) ⌝ }
+    ensures { λ _. ⌜ Measures k (now (taken .entry)) (now (room .exit)) ⌝ }
+{
+    let mut c = factor(k) as usize;
+    let mut free: u16 = 0;
+    while 0 < c {
+        c -= 1;
+        if taken[c] {
+            free = 0;
+        } else {
+            free += 1;
+        }
+        room[c] = free;
+    }
+}
+
+fn wide(classes: u16) -> u32
+    ensures { λ r. ⌜ (r ≡ classes) × (r < 65536) ⌝ }
+{
+    classes as u32
+}
+
+// The first anchor in node order whose whole run is free; a run is passed by stretches of free classes.
+fn search(room: &[u16; 512], anchors: &[u16; 512], k: u32, floor: u32) -> Place
     requires { ⌜ (k ≤ depth) × (floor ≤ 2 ^ k) × Anchors k (now anchors) ⌝ }
-    ensures { λ r. ⌜ Searches k floor (now (taken .entry)) r ⌝ }
+    ensures { λ r. ⌜ Searches k floor (now (room .entry)) r ⌝ }
 {
     let f = factor(k);
     'nodes: for p in 0..f {
         let a = anchors[p as usize];
-        for j in 0..floor {
-            if taken[class_at(k, a as u32, j) as usize] {
+        let mut j: u32 = 0;
+        while j < floor {
+            let free = wide(room[class_at(k, a as u32, j) as usize]);
+            if free == 0 {
                 continue 'nodes;
             }
+            j += free;
         }
         return Place::At(a);
     }
@@ -84,8 +116,10 @@ pub fn place(tree: &[u8; 128], k: u32, floor: u32) -> Place
 {
     let mut taken = [false; 512];
     let mut anchors = [0u16; 512];
+    let mut room = [0u16; 512];
     read_depth(tree, k, &mut taken, &mut anchors);
-    search(&taken, &anchors, k, floor)
+    measure(&taken, k, &mut room);
+    search(&room, &anchors, k, floor)
 }
 
 /// Where an admission goes, or the number of the first check from 2 on that refuses.

@@ -50,10 +50,10 @@ fn connection_at(bytes: &[u8], at: usize) -> Connection
     Connection {
         live: true,
         k: field(bytes, at, 1, 1) as u8,
-        anchor: field(bytes, at, 2, 2) as u16,
         length: field(bytes, at, 4, 2) as u16,
         floor: field(bytes, at, 6, 2) as u16,
         ceiling: field(bytes, at, 8, 2) as u16,
+        anchor: field(bytes, at, 2, 2),
         estimate: field(bytes, at, 10, 4),
     }
 }
@@ -66,7 +66,7 @@ fn numbers_sound(c: Connection) -> bool
         return false;
     }
     let f = factor(c.k as u32);
-    if f <= c.anchor as u32 {
+    if f <= c.anchor {
         return false;
     }
     if c.floor < 1 {
@@ -124,39 +124,33 @@ fn run_free(tree: &[u8; 128], k: u32, anchor: u32, length: u32) -> bool
     true
 }
 
-// The connections with the bytes of their tree, whether they are apart, and the cursor after them.
-fn answer(apart: bool, connections: [Connection; 64], bytes: [u8; 128], end: usize) -> Restored
-    ensures { λ r. ⌜ (r .apart ≡ apart) × (r .schedule .connections ≡ connections) × (r .schedule .tree .bytes ≡ bytes) × (r .end ≡ end) ⌝ }
-{
-    let tree = Tree { bytes };
-    let schedule = Schedule { connections, tree };
-    Restored {
-        apart,
-        schedule,
-        end,
-    }
-}
-
 /// Check 11: the connections of the records with their tree, taken one after the other on an empty tree; or two of them own one block.
 pub fn restore(bytes: &[u8], n: usize) -> Restored
     requires { ⌜ FramedAt (now bytes) n × (soundPieces 0 (records (now bytes) n) ≡ true) ⌝ }
     ensures { λ r. ⌜ Restores (records (now (bytes .entry)) n) r ⌝ }
 {
-    let mut connections = [nobody(); 64];
-    let mut tree = tree::empty();
+    let connections = [nobody(); 64];
+    let empty = tree::empty();
+    let tree = Tree { bytes: empty };
+    let mut s = Schedule { connections, tree };
     let mut cursor = next(bytes, 0);
+    let mut apart = true;
     for i in 0..n {
         let c = connection_at(bytes, cursor);
         let k = c.k as u32;
-        let anchor = c.anchor as u32;
         let length = c.length as u32;
-        if !run_free(&tree, k, anchor, length) {
-            return answer(false, connections, tree, cursor);
+        if !run_free(&s.tree.bytes, k, c.anchor, length) {
+            apart = false;
+            break;
         }
-        set_run(&mut tree, k, anchor, 0, length, true);
+        set_run(&mut s.tree.bytes, k, c.anchor, 0, length, true);
         let h = handle_at(bytes, cursor) as usize;
-        connections[h] = c;
+        s.connections[h] = c;
         cursor = next(bytes, cursor);
     }
-    answer(true, connections, tree, cursor)
+    Restored {
+        apart,
+        schedule: s,
+        end: cursor,
+    }
 }

@@ -8,6 +8,14 @@ bool-iff true b f g = sym (f refl)
 bool-iff false true f g = g refl
 bool-iff false false f g = refl
 
+pub and-assoc : (a b d : Bool) → (a && b) && d ≡ a && (b && d)
+and-assoc true b d = refl
+and-assoc false b d = refl
+
+pub and-true : (a : Bool) → a && true ≡ a
+and-true true = refl
+and-true false = refl
+
 pub both : (a b : Bool) → a && b ≡ true → (a ≡ true) × (b ≡ true)
 both true b e = (refl, e)
 both false b e = absurd (false≢true e)

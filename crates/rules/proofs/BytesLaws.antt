@@ -87,17 +87,14 @@ same-exactly xs ys = (to xs ys, λ e. rw e (itself ys))
     itself [] = refl
     itself (y ∷ ys) = ap₂ _&&_ (eq-eqb y y refl) (itself ys)
 
--- Place by place: equal here, it is up to what follows; different here, the lists differ.
+-- Place by place: it is up to the two numbers here, and to what follows.
 module _ (xs ys : List ℕ) (i j : ℕ) (hi : i < length xs) (hj : j < length ys) where
-  pub same-turn : getD xs i 0 ≡ getD ys j 0 → same (drop i xs) (drop j ys) ≡ same (drop (i + 1) xs) (drop (j + 1) ys)
+  pub same-here : same (drop i xs) (drop j ys) ≡ (eqb (getD xs i 0) (getD ys j 0) && same (drop (i + 1) xs) (drop (j + 1) ys))
   unfolding same
-  same-turn e =
-      rw (add-one i, add-one j)
-      (ap₂ same (drop-cons xs i 0 hi) (drop-cons ys j 0 hj)
-      ∙ ap (λ (v : Bool). v && same (drop (suc i) xs) (drop (suc j) ys)) (eq-eqb (getD xs i 0) (getD ys j 0) e))
+  same-here = rw (add-one i, add-one j) (ap₂ same (drop-cons xs i 0 hi) (drop-cons ys j 0 hj))
+
+  pub same-turn : getD xs i 0 ≡ getD ys j 0 → same (drop i xs) (drop j ys) ≡ same (drop (i + 1) xs) (drop (j + 1) ys)
+  same-turn e = same-here ∙ ap (λ (v : Bool). v && same (drop (i + 1) xs) (drop (j + 1) ys)) (eq-eqb (getD xs i 0) (getD ys j 0) e)
 
   pub same-differs : (getD xs i 0 ≡ getD ys j 0 → ⊥) → same (drop i xs) (drop j ys) ≡ false
-  unfolding same
-  same-differs e =
-      ap₂ same (drop-cons xs i 0 hi) (drop-cons ys j 0 hj)
-      ∙ ap (λ (v : Bool). v && same (drop (suc i) xs) (drop (suc j) ys)) (ne-eqb (getD xs i 0) (getD ys j 0) e)
+  same-differs e = same-here ∙ ap (λ (v : Bool). v && same (drop (i + 1) xs) (drop (j + 1) ys)) (ne-eqb (getD xs i 0) (getD ys j 0) e)

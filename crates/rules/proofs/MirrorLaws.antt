@@ -1,11 +1,11 @@
 -- The laws of the mirrored order.
-use mathlib.Core.Path.{_≡_, ap, _∙_}
-use Prim.Native.Nat.{ℕ, zero, suc, _+_, _*_, _/_, _%_, _^_, _<_}
-use native.Mathlib.Nat.{pow-suc, add-zero, add-suc, div-one, mod-eq-of-lt, div-div-eq-div-mul, mul-add-mod-self-right}
+use mathlib.Core.Path.{_≡_, refl, ap, _∙_}
+use Prim.Native.Nat.{ℕ, zero, suc, _+_, _-_, _*_, _/_, _%_, _^_, _<_}
+use native.Mathlib.Nat.{pow-suc, zero-add, suc-add, add-comm, div-one}
 use native.Mathlib.Omega.{arith}
 use lib.Dec.{lit<}
 use lib.Bits.{block-odd, block-half}
-use lib.Pow.{pow-add}
+use lib.Pow.{pow-add, low, high, shr-shr}
 use Rattle.rules.specs.Mirror.{mirrored}
 
 bit-lt : (b m n : ℕ) → b < 2 → m < n → b * n + m < n * 2
@@ -18,6 +18,14 @@ pub mirror-lt : (k p : ℕ) → mirrored k p < 2 ^ k
 unfolding mirrored
 mirror-lt zero p = lit< tt
 mirror-lt (suc k) p = rw (pow-suc 2 k) (bit-lt (p % 2) (mirrored k (p / 2)) (2 ^ k) (omega arith) (mirror-lt k (p / 2)))
+
+-- The lowest k of k + d bits, mirrored, stand above the others, mirrored.
+pub mirror-split : (k d p : ℕ) → mirrored (k + d) p ≡ mirrored k p * 2 ^ d + mirrored d (p / 2 ^ k)
+unfolding mirrored
+mirror-split zero d p = rw (zero-add d, div-one p) (omega arith)
+mirror-split (suc k) d p =
+    let s : p / 2 / 2 ^ k ≡ p / 2 ^ suc k = shr-shr p 1 k ∙ ap (λ (x : ℕ). p / 2 ^ x) (omega arith) in
+    rw (suc-add k d, mirror-split k d (p / 2), pow-add 2 k d, s) (omega arith)
 
 -- The highest bit becomes the lowest.
 pub mirror-high : (k b m : ℕ) → b < 2 → m < 2 ^ k → mirrored (suc k) (b * 2 ^ k + m) ≡ mirrored k m * 2 + b
@@ -41,12 +49,26 @@ mirror-mirror (suc k) p h =
 
 -- The lowest K bits of what is mirrored are the highest K, mirrored.
 pub mirror-low : (d K p : ℕ) → mirrored (K + d) p % 2 ^ K ≡ mirrored K (p / 2 ^ d)
+mirror-low d K p = rw (add-comm K d, mirror-split d K p) (low (mirrored d p) K (mirror-lt K (p / 2 ^ d)))
+
+-- Without its lowest bit, what is mirrored is the mirror of one bit less.
+mirror-half : (k p : ℕ) → mirrored (suc k) p / 2 ≡ mirrored k p
+mirror-half k p =
+    let e : suc k ≡ k + 1 = omega arith in
+    rw (e, mirror-split k 1 p) (high (mirrored k p) 1 (mirror-lt 1 (p / 2 ^ k)))
+
+-- What is mirrored is the mirror of its half, moved down a bit, with its lowest bit on top.
+pub mirror-by-half : (k p : ℕ) → 0 < k → mirrored k (p / 2) / 2 + p % 2 * 2 ^ (k - 1) ≡ mirrored k p
 unfolding mirrored
-mirror-low zero K p = rw (add-zero K, div-one p) (mod-eq-of-lt (mirror-lt K p))
-mirror-low (suc d) K p =
-    let r : p / 2 / 2 ^ d ≡ p / 2 ^ suc d = div-div-eq-div-mul p 2 (2 ^ d) ∙ ap (λ (x : ℕ). p / x) (omega arith) in
-    let s : p % 2 * 2 ^ (K + d) ≡ p % 2 * 2 ^ d * 2 ^ K = rw (pow-add 2 K d) (omega arith) in
-    rw (add-suc K d, s, mul-add-mod-self-right (p % 2 * 2 ^ d) (2 ^ K) (mirrored (K + d) (p / 2)), mirror-low d K (p / 2), r)
+mirror-by-half zero p h = absurd (omega arith)
+mirror-by-half (suc k) p h =
+    let e : suc k - 1 ≡ k = omega arith in
+    rw (e, mirror-half k (p / 2)) (omega arith)
+
+pub mirror-zero : (k : ℕ) → mirrored k 0 ≡ 0
+unfolding mirrored
+mirror-zero zero = refl
+mirror-zero (suc k) = omega (arith, mirror-zero k)
 
 -- The two children of a node: the position's new lowest bit is the class's new highest bit.
 pub mirror-left : (k p : ℕ) → mirrored (suc k) (2 * p) ≡ mirrored k p

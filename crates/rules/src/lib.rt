@@ -2,14 +2,15 @@
 
 // ---- the schedule
 
-/// A connection's share of the radio; its handle is its place in the schedule.
+/// A connection's share of the radio; its handle is its place in the schedule. Sixteen bytes, none of them between two fields:
+/// so a schedule is copied as a whole.
 pub struct Connection {
     pub live: bool,
     pub k: u8,
-    pub anchor: u16,
     pub length: u16,
     pub floor: u16,
     pub ceiling: u16,
+    pub anchor: u32,
     pub estimate: u32,
 }
 

@@ -14,10 +14,10 @@ pub fn nobody() -> Connection
     Connection {
         live: false,
         k: 0,
-        anchor: 0,
         length: 0,
         floor: 0,
         ceiling: 0,
+        anchor: 0,
         estimate: 0,
     }
 }

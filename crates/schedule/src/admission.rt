@@ -15,17 +15,17 @@ use run::factor;
 use run::set_run;
 
 // L is the floor; the estimate is L × 7,500 - 2,500.
-fn new_connection(k: u8, anchor: u16, floor: u16, ceiling: u16) -> Connection
+fn new_connection(k: u8, anchor: u32, floor: u16, ceiling: u16) -> Connection
     requires { ⌜ (1 ≤ floor) × (floor ≤ 512) ⌝ }
     ensures { λ r. ⌜ r ≡ newConnection k anchor floor ceiling ⌝ }
 {
     Connection {
         live: true,
         k,
-        anchor,
         length: floor,
         floor,
         ceiling,
+        anchor,
         estimate: floor as u32 * 7500 - 2500,
     }
 }
@@ -35,31 +35,29 @@ pub fn admit(mut s: Schedule, handle: u32, interval: u32, floor: u32, ceiling: u
     requires { ⌜ Good s ⌝ }
     ensures { λ r. ⌜ Admits s handle interval floor ceiling r ⌝ }
 {
-    if 63 < handle {
-        return Admitted {
-            answer: Admission::Refused(Refusal::HandleAbove63),
-            schedule: s,
-        };
-    }
-    let h = handle as usize;
-    let old = s.connections[h];
-    match plan(&s.tree.bytes, old.live, interval, floor, ceiling) {
-        Plan::Refused(r) => Admitted {
-            answer: Admission::Refused(r),
-            schedule: s,
-        },
-        Plan::At(k, anchor) => {
-            let c = new_connection(k, anchor, floor as u16, ceiling as u16);
-            set_run(&mut s.tree.bytes, k as u32, anchor as u32, 0, floor, true);
-            s.connections[h] = c;
-            Admitted {
-                answer: Admission::Placed {
+    let mut answer = Admission::Refused(Refusal::HandleAbove63);
+    if handle <= 63 {
+        let h = handle as usize;
+        let old = s.connections[h];
+        match plan(&s.tree.bytes, old.live, interval, floor, ceiling) {
+            Plan::Refused(r) => {
+                answer = Admission::Refused(r);
+            }
+            Plan::At(k, anchor) => {
+                let c = new_connection(k, anchor as u32, floor as u16, ceiling as u16);
+                set_run(&mut s.tree.bytes, k as u32, anchor as u32, 0, floor, true);
+                s.connections[h] = c;
+                answer = Admission::Placed {
                     factor: factor(k as u32) as u16,
                     anchor,
                     length: floor as u16,
-                },
-                schedule: s,
+                };
             }
         }
+    }
+    // one way out: the schedule is copied once
+    Admitted {
+        answer,
+        schedule: s,
     }
 }

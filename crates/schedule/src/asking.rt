@@ -20,7 +20,7 @@ fn owns(c: Connection, block: u32) -> bool
     ensures { λ r. ⌜ r ≡ ownsBlock c block ⌝ }
 {
     if c.live {
-        minus_mod(c.k as u32, block, c.anchor as u32) < c.length as u32
+        minus_mod(c.k as u32, block, c.anchor) < c.length as u32
     } else {
         false
     }
@@ -49,7 +49,7 @@ pub fn anchor(s: Schedule, handle: u32, block: u32) -> Distance
     }
     let c = s.connections[handle as usize];
     if c.live {
-        return Distance::Slots(6 * minus_mod(c.k as u32, c.anchor as u32, block));
+        return Distance::Slots(6 * minus_mod(c.k as u32, c.anchor, block));
     }
     Distance::Refused(Refusal::HandleNotLive)
 }

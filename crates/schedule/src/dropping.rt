@@ -13,31 +13,28 @@ pub fn drop(mut s: Schedule, handle: u32) -> Dropped
     requires { ⌜ Good s ⌝ }
     ensures { λ r. ⌜ Drops s handle r ⌝ }
 {
-    if 63 < handle {
-        return Dropped {
-            answer: Dropping::Refused(Refusal::HandleAbove63),
-            schedule: s,
-        };
+    let mut answer = Dropping::Refused(Refusal::HandleAbove63);
+    if handle <= 63 {
+        let h = handle as usize;
+        let c = s.connections[h];
+        if c.live {
+            set_run(
+                &mut s.tree.bytes,
+                c.k as u32,
+                c.anchor,
+                0,
+                c.length as u32,
+                false,
+            );
+            s.connections[h] = nobody();
+            answer = Dropping::Done;
+        } else {
+            answer = Dropping::Refused(Refusal::HandleNotLive);
+        }
     }
-    let h = handle as usize;
-    let c = s.connections[h];
-    if c.live {
-        set_run(
-            &mut s.tree.bytes,
-            c.k as u32,
-            c.anchor as u32,
-            0,
-            c.length as u32,
-            false,
-        );
-        s.connections[h] = nobody();
-        return Dropped {
-            answer: Dropping::Done,
-            schedule: s,
-        };
-    }
+    // one way out: the schedule is copied once
     Dropped {
-        answer: Dropping::Refused(Refusal::HandleNotLive),
+        answer,
         schedule: s,
     }
 }

@@ -22,17 +22,16 @@ fn settle(tree: &mut [u8; 128], c: Connection, aim: u16) -> Reporting
     ensures { λ r. ⌜ Settles c aim (now (tree .entry)) (now (tree .exit)) r ⌝ }
 {
     let k = c.k as u32;
-    let anchor = c.anchor as u32;
     let length = c.length as u32;
     if aim as u32 == length {
         return Reporting::Kept(aim);
     }
     if (aim as u32) < length {
-        set_run(tree, k, anchor, aim as u32, length, false);
+        set_run(tree, k, c.anchor, aim as u32, length, false);
         return Reporting::Shrunk(aim);
     }
-    if tree::is_free(tree, k, class_at(k, anchor, length)) {
-        set_run(tree, k, anchor, length, length + 1, true);
+    if tree::is_free(tree, k, class_at(k, c.anchor, length)) {
+        set_run(tree, k, c.anchor, length, length + 1, true);
         return Reporting::Grown(c.length + 1);
     }
     Reporting::Tight(c.length)
@@ -56,10 +55,10 @@ fn with_meter(c: Connection, length: u16, estimate: u32) -> Connection
     Connection {
         live: c.live,
         k: c.k,
-        anchor: c.anchor,
         length,
         floor: c.floor,
         ceiling: c.ceiling,
+        anchor: c.anchor,
         estimate,
     }
 }
@@ -69,29 +68,21 @@ pub fn report(mut s: Schedule, handle: u32, sample: u32) -> Reported
     requires { ⌜ Good s ⌝ }
     ensures { λ r. ⌜ Reports s handle sample r ⌝ }
 {
-    if 63 < handle {
-        return Reported {
-            answer: Reporting::Refused(Refusal::HandleAbove63),
-            schedule: s,
-        };
+    let mut answer = Reporting::Refused(Refusal::HandleAbove63);
+    if handle <= 63 {
+        let h = handle as usize;
+        let c = s.connections[h];
+        if !c.live {
+            answer = Reporting::Refused(Refusal::HandleNotLive);
+        } else if c.length as u32 * 7500 < sample {
+            answer = Reporting::Refused(Refusal::SampleAboveRun);
+        } else {
+            let m = move_meter(c.estimate, c.length, sample, c.floor, c.ceiling);
+            answer = settle(&mut s.tree.bytes, c, m.length);
+            s.connections[h] = with_meter(c, length_of(answer), m.estimate);
+        }
     }
-    let h = handle as usize;
-    let c = s.connections[h];
-    if !c.live {
-        return Reported {
-            answer: Reporting::Refused(Refusal::HandleNotLive),
-            schedule: s,
-        };
-    }
-    if c.length as u32 * 7500 < sample {
-        return Reported {
-            answer: Reporting::Refused(Refusal::SampleAboveRun),
-            schedule: s,
-        };
-    }
-    let m = move_meter(c.estimate, c.length, sample, c.floor, c.ceiling);
-    let answer = settle(&mut s.tree.bytes, c, m.length);
-    s.connections[h] = with_meter(c, length_of(answer), m.estimate);
+    // one way out: the schedule is copied once
     Reported {
         answer,
         schedule: s,

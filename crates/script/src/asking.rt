@@ -51,7 +51,7 @@ fn load_of(line: &[u8], bytes: &mut [u8]) -> Order
 }
 
 /// The order that a line is, written out; any other line is bad.
-pub fn order(line: &[u8], bytes: &mut [u8]) -> Order
+pub fn order_of(line: &[u8], bytes: &mut [u8]) -> Order
     requires { ⌜ length (now line) ≤ 2 * length (now bytes) ⌝ }
     ensures { λ r. ⌜ Asks (now (line .entry)) (now (bytes .exit)) r ⌝ }
 {

@@ -4,6 +4,7 @@ mod asking;
 mod hexing;
 mod performing;
 
+pub use asking::order_of;
 pub use performing::perform;
 use rules::Command;
 use rules::Schedule;

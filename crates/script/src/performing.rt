@@ -14,7 +14,7 @@ ghost use Rattle.script.specs.Performing.{mostPrinted, newline, connecti
 ghost use Rattle.script.specs.Promises.{PutsState, PutsWords, Performs, SizeFits};
 use crate::Order;
 use crate::Performed;
-use crate::asking::order;
+use crate::asking::order_of;
 use crate::hexing::put_hex;
 use command::obey;
 use image::load;
@@ -38,7 +38,7 @@ fn put_run(out: &mut [u8], at: usize, handle: u8, c: Connection) -> usize
 {
     let a = put_decimal(out, at, handle as u32);
     let b = put_number(out, a, c.k as u32);
-    let d = put_number(out, b, c.anchor as u32);
+    let d = put_number(out, b, c.anchor);
     put_number(out, d, c.length as u32)
 }
 
@@ -150,7 +150,7 @@ pub fn perform(s: Schedule, line: &[u8], bytes: &mut [u8], out: &mut [u8]) -> Pe
     requires { ⌜ Good s × (length (now line) ≤ 65536) × (32768 ≤ length (now bytes)) × (mostPrinted ≤ length (now out)) ⌝ }
     ensures { λ r. ⌜ Performs s (now (line .entry)) (now (out .entry)) (now (out .exit)) r ⌝ }
 {
-    match order(line, bytes) {
+    match order_of(line, bytes) {
         Order::Command(command) => {
             let done = obey(s, command);
             let reply = done.reply;

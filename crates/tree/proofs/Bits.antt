@@ -2,10 +2,9 @@
 use mathlib.Core.Path.{_≡_, refl, sym, ap, _∙_}
 use mathlib.Core.Bool.{Bool, true, false, _||_, _&&_, not, cond, Bool·beq, or-true, or-false, and-true, and-false, false≢true}
 use mathlib.Core.List.{List}
-use mathlib.Core.Logic.{_≢_, by-cases}
+use mathlib.Core.Logic.{by-cases}
 use Prim.Native.Nat.{ℕ, zero, suc, _+_, _-_, _*_, _/_, _%_, _^_, _<_, _≤_}
-use native.Mathlib.Nat.{mod-eq-of-lt, one-mul, pow-suc, mul-le-mul-right}
-use native.Mathlib.Numerals.{add-one}
+use native.Mathlib.Nat.{mod-eq-of-lt, one-mul, mul-le-mul-right}
 use native.Mathlib.Decide.{ℕ-discrete}
 use native.Mathlib.Omega.{arith}
 use lib.Bits.{bitOr, bitAnd, and-mask, or-shr, or-mod, or-zero-l, or-lt, and-shr, and-mod, and-zero-l, and-le-l, or-shifted}
@@ -67,13 +66,14 @@ and-bit a b j =
     ∙ ap (λ (r : ℕ). eqb r 1) (and-mod (a / 2 ^ j) (b / 2 ^ j) 1)
     ∙ and2 (a / 2 ^ j % 2) (b / 2 ^ j % 2) (omega arith) (omega arith)
 
--- a test of two numbers below 8, computed at each
-beq-true : (a b : Bool) → Bool·beq a b ≡ true → a ≡ b
+-- what the test of two bits says
+pub beq-true : (a b : Bool) → Bool·beq a b ≡ true → a ≡ b
 beq-true true true e = refl
 beq-true true false e = absurd (false≢true e)
 beq-true false true e = absurd (false≢true e)
 beq-true false false e = refl
 
+-- a test of two numbers below 8, computed at each
 at-8-8 : (f g : ℕ → ℕ → Bool) → every 8 (λ i. every 8 (λ j. Bool·beq (f i j) (g i j))) ≡ true → (i j : ℕ) → i < 8 → j < 8 → f i j ≡ g i j
 at-8-8 f g e i j hi hj =
     beq-true (f i j) (g i j)
@@ -156,29 +156,7 @@ module _ (t : List ℕ) (n : ℕ) (sized : Sized t) (hn : n < 1024) where
         bits = written-bits t n _ false sized hn w;
       })
 
--- ---- mirroring
--- `(r << 1) | (q & 1)`
-shl-or : (r q : ℕ) → r < 512 → bitOr (r * 2 % 4294967296) (bitAnd q 1) ≡ r * 2 + q % 2
-shl-or r q h =
-    let e : r * 2 % 4294967296 ≡ r * 2 = omega arith in
-    let l : q % 2 < 2 ^ 1 = omega arith in
-    rw (e, and1) (or-shifted r 1 (q % 2) l)
-
-one-bit-on : (r q j : ℕ) → (r * 2 + q % 2) * 2 ^ j + mirrored j (q / 2) ≡ r * 2 ^ suc j + mirrored (suc j) q
-unfolding mirrored
-one-bit-on r q j = rw (pow-suc 2 j) (omega arith)
-
--- a turn of the loop keeps its invariant
-pub mirror-turn : (k p r q i : ℕ) → k ≤ 9 → i < k → r < 2 ^ i → r * 2 ^ (k - i) + mirrored (k - i) q ≡ mirrored k p
-    → (i + 1 ≤ k) × (bitOr (r * 2 % 4294967296) (bitAnd q 1) < 2 ^ (i + 1))
-    × (bitOr (r * 2 % 4294967296) (bitAnd q 1) * 2 ^ (k - (i + 1)) + mirrored (k - (i + 1)) (q / 2) ≡ mirrored k p)
-mirror-turn k p r q i hk hi hr e =
-    let i9 : i < 9 = omega arith in
-    let l : 2 ^ i < 512 = pow-lt i9 in
-    let s : k - i ≡ suc (k - (i + 1)) = omega arith in
-    rw (shl-or r q (omega arith))
-    (omega arith, rw (add-one i) (omega arith), one-bit-on r q (k - (i + 1)) ∙ rw s at e)
-
+-- ---- the node of a class
 -- the bit of depth k above what is mirrored
 pub node-number : (k r : ℕ) → k ≤ 9 → bitOr (1 * 2 ^ k % 4294967296) (mirrored k r) ≡ 2 ^ k + mirrored k r
 node-number k r h =

@@ -8,55 +8,68 @@ use native.Mathlib.Nat.{mul-le-mul-right}
 use native.Mathlib.Decide.{ℕ-discrete}
 use native.Mathlib.Omega.{arith}
 use lib.Pow.{pow-pos, pow-add}
-use borrow.Author.Tests.{eq-eqb, ne-eqb}
+use borrow.Author.Tests.{eqb-false, eq-eqb, ne-eqb}
 use Rattle.rules.specs.Classes.{depth, inClass, withClass, withoutClass}
 use Rattle.rules.specs.Mirror.{mirrored}
 use Rattle.rules.specs.TreeBytes.{treeOf, bitAt}
 use Rattle.rules.proofs.TreeLaws.{Joined, tree-root, tree-leaves, tree-of-leaves, tree-ext}
 use Rattle.tree.specs.Under.{under}
-use Rattle.tree.specs.Promises.{WritesBelow, Joins, MissingAbove, JoinsAbove, WritesClass}
+use Rattle.tree.specs.Promises.{WritesBelow, Joins, MissingOver, JoinsAbove, WritesClass}
 use Rattle.tree.proofs.Bits.{node-lt}
-use Rattle.tree.proofs.UnderLaws.{under-lt, not-above, above-more, child-under, under-leaf}
+use Rattle.tree.proofs.UnderLaws.{under-lt, not-above, above-less, child-under, under-leaf}
 
--- ---- one node joined
-module _ (w : ℕ) (t t′ : List ℕ) (hw : 0 < w) (hw2 : w < 512) (j : Joins w t t′) where
-  kept : (m : ℕ) → m ≢ w → bitAt t′ m ≡ bitAt t m
-  kept m h = j .bits m ∙ rw (ne-eqb m w h)
+-- Only nodes above n may have another bit, and what is not above n is not above v.
+pub record Keeps (n v : ℕ) (before after : List ℕ) : Type 0 where
+  pub others : (m : ℕ) → 0 < m → under 9 m (n / 2) ≡ false → bitAt after m ≡ bitAt before m
+  pub zeroth : bitAt after 0 ≡ bitAt before 0
+  pub above : (m : ℕ) → 0 < m → under 9 m (n / 2) ≡ false → under 9 m (v / 2) ≡ false
 
-  joined-at : Joined t′ w
-  joined-at = j .bits w ∙ rw (eq-eqb w w refl, kept (2 * w) (omega arith), kept (2 * w + 1) (omega arith))
+-- ---- the node over v joined
+module _ (v : ℕ) {t t′ : List ℕ} {changed : Bool} (hv : 1 < v) (j : Joins (v / 2) t t′ changed) where
+  kept : (m : ℕ) → m ≢ v / 2 → bitAt t′ m ≡ bitAt t m
+  kept m h = j .bits m ∙ rw (ne-eqb m (v / 2) h)
 
-  joined-other : (a : ℕ) → 0 < a → a ≢ w → under 9 a (w / 2) ≡ false → Joined t a → Joined t′ a
-  joined-other a ha h hu g =
-      let n : a ≢ w / 2 = not-above a (w / 2) hu in
-      rw (kept a h, kept (2 * a) (omega arith), kept (2 * a + 1) (omega arith)) g
+  joined-over : Joined t′ (v / 2)
+  joined-over = j .bits (v / 2) ∙ rw (eq-eqb (v / 2) (v / 2) refl, kept (2 * (v / 2)) (omega arith), kept (2 * (v / 2) + 1) (omega arith))
 
-  -- only the nodes above w are still missing
-  pub join-missing : (v : ℕ) → v / 2 ≡ w → MissingAbove v t → MissingAbove w t′
-  join-missing v hv g a ha ha2 hu =
-      by-cases (ℕ-discrete a w)
-      (λ q. subst (λ (x : ℕ). Joined t′ x) (sym q) joined-at)
-      (λ q. joined-other a ha q hu (g a ha ha2 (rw hv (above-more a w ha (omega arith) q hu))))
+  -- so is any node whose children kept their bits
+  joined-where : MissingOver v t → (a : ℕ) → 0 < a → a < 512 → ((m : ℕ) → m / 2 ≡ a → bitAt t′ m ≡ bitAt t m) → Joined t′ a
+  joined-where g a ha hl children =
+      by-cases (ℕ-discrete a (v / 2))
+      (λ q. subst (λ (x : ℕ). Joined t′ x) (sym q) joined-over)
+      (λ q. rw (kept a q, children (2 * a) (omega arith), children (2 * a + 1) (omega arith)) (g a ha hl (ne-eqb a (v / 2) q)))
 
-  pub join-others : (m : ℕ) → under 9 m w ≡ false → bitAt t′ m ≡ bitAt t m
-  join-others m hu = kept m (not-above m w hu)
+  -- only the node one level higher may be missing now, and not even that one where nothing changed
+  pub join-missing : MissingOver v t → MissingOver (v / 2) t′
+  join-missing g a ha hl h =
+      let n : a ≢ v / 2 / 2 = eqb-false a (v / 2 / 2) h in
+      joined-where g a ha hl (λ m e. kept m (omega arith))
 
-  pub join-zeroth : bitAt t′ 0 ≡ bitAt t 0
-  join-zeroth = kept 0 (omega arith)
+  pub join-stays : changed ≡ false → MissingOver v t → (a : ℕ) → 0 < a → a < 512 → Joined t′ a
+  join-stays s g a ha hl =
+      joined-where g a ha hl (λ m e. by-cases (ℕ-discrete m (v / 2)) (λ q. rw q (j .same s)) (kept m))
+
+  pub join-keeps : {n : ℕ} {before : List ℕ} → v < 1024 → Keeps n v before t → Keeps n (v / 2) before t′
+  join-keeps hl k =
+      record {
+        others = λ m h e. kept m (not-above m (v / 2) (k .above m h e)) ∙ k .others m h e;
+        zeroth = kept 0 (omega arith) ∙ k .zeroth;
+        above = λ m h e. above-less m (v / 2) h (omega arith) (k .above m h e);
+      }
 
 -- ---- all nodes under n with one bit
 cond-joined : (u v a x y : Bool) → a ≡ x || y → cond u v a ≡ cond u v x || cond u v y
 cond-joined true v a x y e = sym (or-self v)
 cond-joined false v a x y e = e
 
--- where every inner node was joined, only the nodes above n are missing now
+-- where every inner node was joined, only the one over n may be missing now
 pub below-missing : (k n : ℕ) (v : Bool) (t c : List ℕ) → k ≤ 9 → 2 ^ k ≤ n → WritesBelow (9 - k) n v t c
-    → ((a : ℕ) → 0 < a → a < 512 → Joined t a) → MissingAbove n c
+    → ((a : ℕ) → 0 < a → a < 512 → Joined t a) → MissingOver n c
 below-missing k n v t c hk hn w j a ha hl hu =
     let s : k + (9 - k) ≡ 9 = omega arith in
     let e : 2 ^ k * 2 ^ (9 - k) ≡ 512 = sym (pow-add 2 k (9 - k)) ∙ ap (λ (x : ℕ). 2 ^ x) s in
     let g : a < n * 2 ^ (9 - k) = omega (arith, e, mul-le-mul-right (2 ^ (9 - k)) hn) in
-    let q : a ≢ n / 2 = not-above a (n / 2) hu in
+    let q : a ≢ n / 2 = eqb-false a (n / 2) hu in
     let u₀ : under (9 - k) n (2 * a) ≡ under (9 - k) n a = child-under (9 - k) n a (2 * a) (omega arith) (omega arith) g in
     let u₁ : under (9 - k) n (2 * a + 1) ≡ under (9 - k) n a = child-under (9 - k) n a (2 * a + 1) (omega arith) (omega arith) g in
     rw (w .bits a, w .bits (2 * a), w .bits (2 * a + 1), u₀, u₁)

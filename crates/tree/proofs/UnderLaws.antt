@@ -100,12 +100,6 @@ above-less m v hm hv e =
     let g : v / 2 < m * 2 ^ 9 = omega arith in
     under-more 8 m (v / 2) g ∙ second-false (eqb v m) (under 8 m (v / 2)) e
 
-pub above-more : (m v : ℕ) → 0 < m → v < 1024 → m ≢ v → under 9 m (v / 2) ≡ false → under 9 m v ≡ false
-unfolding under
-above-more m v hm hv q e =
-    let g : v / 2 < m * 2 ^ 9 = omega arith in
-    rw (ne-eqb v m (λ p. q (sym p))) (sym (under-more 8 m (v / 2) g) ∙ e)
-
 -- a child of a node lies under n exactly if the node does, unless the child is n itself
 pub child-under : (l n a x : ℕ) → x / 2 ≡ a → x ≢ n → a < n * 2 ^ l → under l n x ≡ under l n a
 unfolding under

@@ -24,14 +24,15 @@ pub record WritesBelow (l n : ℕ) (bit : Bool) (before after : List ℕ) : Type
   pub sized : Sized after
   pub bits : (m : ℕ) → bitAt after m ≡ cond (under l n m) bit (bitAt before m)
 
--- Node n is the OR of its children, and every other node has its old bit.
-pub record Joins (n : ℕ) (before after : List ℕ) : Type 0 where
+-- Node n is the OR of its children, and every other node has its old bit; so has node n where nothing changed.
+pub record Joins (n : ℕ) (before after : List ℕ) (changed : Bool) : Type 0 where
   pub sized : Sized after
   pub bits : (m : ℕ) → bitAt after m ≡ cond (eqb m n) (bitAt before (2 * n) || bitAt before (2 * n + 1)) (bitAt before m)
+  pub same : changed ≡ false → bitAt after n ≡ bitAt before n
 
--- Every inner node is the OR of its children, but perhaps for those above n.
-abbrev pub MissingAbove : ℕ → List ℕ → Type 0
-MissingAbove n t = (a : ℕ) → 0 < a → a < 512 → under 9 a (n / 2) ≡ false → Joined t a
+-- Every inner node is the OR of its children, but perhaps for the one over n.
+abbrev pub MissingOver : ℕ → List ℕ → Type 0
+MissingOver n t = (a : ℕ) → 0 < a → a < 512 → eqb a (n / 2) ≡ false → Joined t a
 
 -- Now every inner node is; only nodes above n may have a new bit.
 pub record JoinsAbove (n : ℕ) (before after : List ℕ) : Type 0 where

@@ -4,7 +4,7 @@ ghost use Prim.Native.Nat.{_+_, _*_, _<_, _≤_, _^_};
 ghost use Rattle.rules.specs.Classes.{depth, nothing};
 ghost use Rattle.rules.specs.Mirror.{mirrored};
 ghost use Rattle.rules.specs.TreeBytes.{treeOf, bitAt, Sized};
-ghost use Rattle.tree.specs.Promises.{Mirrored, Writes, WritesBelow, Joins, MissingAbove, JoinsAbove, FreeSays, IsTree, WritesClass, Takes, GivesBack};
+ghost use Rattle.tree.specs.Promises.{Mirrored, Writes, WritesBelow, Joins, MissingOver, JoinsAbove, FreeSays, IsTree, WritesClass, Takes, GivesBack};
 
 /// The tree of which no block is taken.
 pub fn empty() -> [u8; 128]
@@ -13,20 +13,16 @@ pub fn empty() -> [u8; 128]
     [0u8; 128]
 }
 
-/// p with its k bits in mirrored order.
+/// p with its k bits in mirrored order: ones, twos, fours and eights of 16 bits change places, and the k bits come down.
 pub fn mirror(k: u32, p: u32) -> u32
     requires { ⌜ k ≤ depth ⌝ }
     ensures { λ r. ⌜ Mirrored k p r ⌝ }
 {
-    let mut r: u32 = 0;
-    let mut q = p;
-    let mut i: u32 = 0;
-    while i < k {
-        r = (r << 1) | (q & 1);
-        q = q >> 1;
-        i += 1;
-    }
-    r
+    let ones = ((p & 0x5555) << 1) | ((p >> 1) & 0x5555);
+    let twos = ((ones & 0x3333) << 2) | ((ones >> 2) & 0x3333);
+    let fours = ((twos & 0x0f0f) << 4) | ((twos >> 4) & 0x0f0f);
+    let eights = ((fours & 0x00ff) << 8) | ((fours >> 8) & 0x00ff);
+    eights >> (16 - k)
 }
 
 /// The node that covers the class of r for the factor 2^k.
@@ -78,24 +74,30 @@ fn write_below(tree: &mut [u8; 128], n: usize, left: u32, taken: bool)
     }
 }
 
-// Node n becomes the OR of its two children.
-fn join(tree: &mut [u8; 128], n: usize)
+// Node n becomes the OR of its two children, and whether that changed it.
+fn join(tree: &mut [u8; 128], n: usize) -> bool
     requires { ⌜ (0 < n) × (n < 512) × Sized (now tree) ⌝ }
-    ensures { λ _. ⌜ Joins n (now (tree .entry)) (now (tree .exit)) ⌝ }
+    ensures { λ r. ⌜ Joins n (now (tree .entry)) (now (tree .exit)) r ⌝ }
 {
     let either = is_set(tree, 2 * n) || is_set(tree, 2 * n + 1);
+    if is_set(tree, n) == either {
+        return false;
+    }
     write_node(tree, n, either);
+    true
 }
 
-// Each ancestor of n becomes the OR of its two children, from below.
+// Each ancestor of n becomes the OR of its two children, from below; one that stays as it was leaves all above it as they were.
 fn join_above(tree: &mut [u8; 128], n: usize)
-    requires { ⌜ (0 < n) × (n < 1024) × Sized (now tree) × MissingAbove n (now tree) ⌝ }
+    requires { ⌜ (0 < n) × (n < 1024) × Sized (now tree) × MissingOver n (now tree) ⌝ }
     ensures { λ _. ⌜ JoinsAbove n (now (tree .entry)) (now (tree .exit)) ⌝ }
 {
     let mut v = n;
     while 1 < v {
         v = v >> 1;
-        join(tree, v);
+        if !join(tree, v) {
+            return;
+        }
     }
 }
 

@@ -1,36 +1,38 @@
--- `place::search` meets its contract. Each node before p is blocked; the run at p is clear up to its block j.
+-- `place::search` meets its contract. No node before p is open; the run at p is clear up to its block j.
 use borrow.Author.Needs.{needs}
-use mathlib.Core.Path.{_≡_, refl, sym, ap, _∙_, subst}
-use mathlib.Core.Bool.{false}
+use mathlib.Core.Path.{_≡_, refl, sym, _∙_}
+use mathlib.Core.Bool.{Bool, false}
 use mathlib.Core.Logic.{by-cases}
-use Prim.Native.Nat.{ℕ, _+_, _-_, _%_, _≤_, _<_, _^_}
+use Prim.Native.Nat.{ℕ, _-_, _≤_, _<_, _^_}
 use native.Mathlib.Decide.{ℕ-discrete}
 use native.Mathlib.Omega.{arith}
 use lib.ListN.{getD}
 use lib.Pow.{pow-mono}
 use Rattle.rules.specs.Mirror.{mirrored}
+use Rattle.rules.specs.Admit.{isOpen}
 use Rattle.rules.proofs.MirrorLaws.{mirror-lt}
-use Rattle.place.proofs.SearchLaws.{Clear, Blocked, clear-more, found-at, found-none}
+use Rattle.place.specs.Promises.{Stretches}
+use Rattle.place.proofs.SearchLaws.{Clear, clear-more, shut-at, found-at, found-none}
 use Rattle.place.proofs.search.Statement.{statement}
 use Rattle.place.proofs.search.Tie as tie
 
 abbrev Inv-loop : tie.InvT-loop
-Inv-loop taken anchors k floor f p₀ a j₀ p j = (p ≡ p₀) × (j ≤ floor) × Clear k taken j a
+Inv-loop room anchors k floor f p₀ a j₀ p j = (p ≡ p₀) × ((taken : ℕ → Bool) → Stretches k taken room → Clear taken k j a)
 
 abbrev μ-loop : tie.MeasureT-loop
-μ-loop taken anchors k floor f p₀ a j₀ p j = floor - j
+μ-loop room anchors k floor f p₀ a j₀ p j = floor - j
 
 abbrev Inv-nodes : tie.InvT-nodes
-Inv-nodes taken anchors k floor f p₀ p = (p ≤ f) × ((q : ℕ) → q < p → Blocked k taken floor (mirrored k q))
+Inv-nodes room anchors k floor f p₀ p = (p ≤ f) × ((taken : ℕ → Bool) → Stretches k taken room → (q : ℕ) → q < p → isOpen taken k floor (mirrored k q) ≡ false)
 
 abbrev μ-nodes : tie.MeasureT-nodes
-μ-nodes taken anchors k floor f p₀ p = f - p
+μ-nodes room anchors k floor f p₀ p = f - p
 
 factor-requires : tie.Need-factor-requires Inv-loop μ-loop Inv-nodes μ-nodes
 factor-requires c κs = search needs
 
 nodes-holds : tie.Need-nodes-holds Inv-loop μ-loop Inv-nodes μ-nodes
-nodes-holds c = (search needs, λ q l. absurd (omega arith))
+nodes-holds c = (search needs, λ t m q l. absurd (omega arith))
 
 cast-a : tie.Need-cast-a Inv-loop μ-loop Inv-nodes μ-nodes
 cast-a c = search needs
@@ -49,7 +51,7 @@ anchor-below : (c : tie.In-nodes Inv-loop μ-loop Inv-nodes μ-nodes) → getD (
 anchor-below c = rw (anchor-is c) (mirror-lt (c .before .before .before .args .k) (c .before .nodes .p))
 
 loop-holds : tie.Need-loop-holds Inv-loop μ-loop Inv-nodes μ-nodes
-loop-holds c = (refl, search needs, λ i l. absurd (omega arith))
+loop-holds c = (refl, λ t m i l. absurd (omega arith))
 
 cast-class-at : tie.Need-cast-class-at Inv-loop μ-loop Inv-nodes μ-nodes
 cast-class-at c =
@@ -62,17 +64,24 @@ class-at-requires c κs =
     let n = c .before .before .before in
     (n .before .before .before .pre .0, anchor-below n, omega arith)
 
-cast-if1 : tie.Need-cast-if1 Inv-loop μ-loop Inv-nodes μ-nodes
-cast-if1 c =
+cast-wide : tie.Need-cast-wide Inv-loop μ-loop Inv-nodes μ-nodes
+cast-wide c = search needs
+
+-- the class is one of the list
+class-below : (c : tie.After-class-at Inv-loop μ-loop Inv-nodes μ-nodes) → c .class-at .result < 512
+class-below c =
     let a = c .before .before .before .before .before .before .before in
     let g : 2 ^ a .args .k ≤ 512 = pow-mono (a .pre .0) in
     omega (arith, c .class-at .ensures .below)
 
-element-copy-out-if1 : tie.Need-element-copy-out-if1 Inv-loop μ-loop Inv-nodes μ-nodes
-element-copy-out-if1 c =
-    let a = c .before .before .before .before .before .before .before in
-    let g : 2 ^ a .args .k ≤ 512 = pow-mono (a .pre .0) in
-    omega (arith, c .class-at .ensures .below)
+mul-wide : tie.Need-mul-wide Inv-loop μ-loop Inv-nodes μ-nodes
+mul-wide c = omega (arith, class-below c)
+
+element-copy-out-wide : tie.Need-element-copy-out-wide Inv-loop μ-loop Inv-nodes μ-nodes
+element-copy-out-wide c = class-below c
+
+wide-requires : tie.Need-wide-requires Inv-loop μ-loop Inv-nodes μ-nodes
+wide-requires c κs = search needs
 
 add-p : tie.Need-add-p Inv-loop μ-loop Inv-nodes μ-nodes
 add-p c = search needs
@@ -82,17 +91,15 @@ nodes-less c = search needs
 
 nodes-again : tie.Need-nodes-again Inv-loop μ-loop Inv-nodes μ-nodes
 nodes-again c =
-    let l = c .before .before .before .before .loop in
-    let n = c .before .before .before .before .before .before in
+    let l = c .before .before .before .before .before .loop in
+    let n = c .before .before .before .before .before .before .before in
     let a = n .before .before .before .args in
-    let r = c .before .before .class-at in
-    let here : Blocked (a .k) (a .taken .now) (a .floor) (mirrored (a .k) (n .before .nodes .p)) =
-    (l .j, omega arith, ap (λ (x : ℕ). getD (a .taken .now) ((x + l .j) % 2 ^ a .k) false) (sym (anchor-is n)) ∙ ap (λ (x : ℕ). getD (a .taken .now) x false) (sym (r .ensures .is)) ∙ c .if1 .taken) in (
+    let e = rw (c .before .before .before .class-at .ensures .is) at (sym (c .before .wide .ensures .0) ∙ c .if1 .taken) in (
       omega arith,
-      λ q h.
+      λ t m q h.
           by-cases (ℕ-discrete q (n .before .nodes .p))
-          (λ e. subst (λ (x : ℕ). Blocked (a .k) (a .taken .now) (a .floor) (mirrored (a .k) x)) (sym e) here)
-          (λ e. n .before .nodes .inv .1 q (omega arith)),
+          (λ s. rw (s, ← anchor-is n) (shut-at t (a .k) (a .room .now) m (a .floor) _ (l .j) (omega arith) e))
+          (λ s. n .before .nodes .inv .1 t m q (omega arith)),
     )
 
 add-j : tie.Need-add-j Inv-loop μ-loop Inv-nodes μ-nodes
@@ -103,27 +110,24 @@ loop-less c = search needs
 
 loop-again : tie.Need-loop-again Inv-loop μ-loop Inv-nodes μ-nodes
 loop-again c =
-    let l = c .before .before .before .before .loop in
-    let n = c .before .before .before .before .before .before in
-    let a = n .before .before .before .args in
-    let r = c .before .before .class-at in
-    (l .inv .0, omega arith, clear-more (a .k) (a .taken .now) (l .j) _ (l .inv .2) (ap (λ (x : ℕ). getD (a .taken .now) x false) (sym (r .ensures .is)) ∙ c .if1 .left))
+    let l = c .before .before .before .before .before .loop in
+    let a = c .before .before .before .before .before .before .before .before .before .before .args in
+    (l .inv .0, λ t m. rw (c .before .wide .ensures .0, c .before .before .before .class-at .ensures .is) (clear-more t (a .k) (a .room .now) m (l .j) _ (l .inv .1 t m)))
 
 returns : tie.Need-returns Inv-loop μ-loop Inv-nodes μ-nodes
-returns c f row =
+returns c f m =
     let l = c .before .loop in
     let n = c .before .before .before in
     let a = n .before .before .before .args in
-    let e : l .j ≡ a .floor = omega arith in
-    let clear : Clear (a .k) (a .taken .now) (a .floor) (mirrored (a .k) (n .before .nodes .p)) = rw (e, anchor-is n) at (l .inv .2) in
+    let clear = rw (anchor-is n) at (l .inv .1 f m) in
     rw (anchor-is n)
-    (found-at f (a .k) (a .floor) (a .taken .now) row (n .before .nodes .p) (omega (arith, n .before .before .factor .ensures .is)) clear (n .before .nodes .inv .1))
+    (found-at f (a .k) (a .floor) (n .before .nodes .p) (omega (arith, n .before .before .factor .ensures .is)) (λ i h. clear i (omega arith)) (n .before .nodes .inv .1 f m))
 
 returns-2 : tie.Need-returns-2 Inv-loop μ-loop Inv-nodes μ-nodes
-returns-2 c f row =
+returns-2 c f m =
     let a = c .before .before .before .args in
     let n = c .before .nodes in
-    found-none f (a .k) (a .floor) (a .taken .now) row (λ q h. n .inv .1 q (omega (arith, c .before .before .factor .ensures .is)))
+    found-none f (a .k) (a .floor) (λ q h. n .inv .1 f m q (omega (arith, c .before .before .factor .ensures .is)))
 
 pub search-spec : {M : Type 1} → statement M
 search-spec =
@@ -141,8 +145,10 @@ search-spec =
     loop-holds
     cast-class-at
     class-at-requires
-    cast-if1
-    element-copy-out-if1
+    cast-wide
+    mul-wide
+    element-copy-out-wide
+    wide-requires
     add-p
     nodes-less
     nodes-again

@@ -32,9 +32,6 @@ cast-t10 c = search needs
 field-requires-5 : tie.Need-field-requires-5
 field-requires-5 c κs = search needs
 
-cast-t12 : tie.Need-cast-t12
-cast-t12 c = search needs
-
 field-requires-6 : tie.Need-field-requires-6
 field-requires-6 c κs = search needs
 
@@ -45,10 +42,10 @@ returns c i =
     record {
       live = true;
       k = b .before .before .before .before .field .ensures .is i;
-      anchor = b .before .before .before .field2 .ensures .is i;
-      length = b .before .before .field3 .ensures .is i;
-      floor = b .before .field4 .ensures .is i;
-      ceiling = b .field5 .ensures .is i;
+      length = b .before .before .before .field2 .ensures .is i;
+      floor = b .before .before .field3 .ensures .is i;
+      ceiling = b .before .field4 .ensures .is i;
+      anchor = b .field5 .ensures .is i;
       estimate = c .field6 .ensures .is i;
     }
 
@@ -65,6 +62,5 @@ connection-at-spec =
     field-requires-4
     cast-t10
     field-requires-5
-    cast-t12
     field-requires-6
     returns)

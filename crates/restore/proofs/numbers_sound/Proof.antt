@@ -16,9 +16,6 @@ cast-factor c = search needs
 factor-requires : tie.Need-factor-requires
 factor-requires c κs = search needs
 
-cast-if2 : tie.Need-cast-if2
-cast-if2 c = search needs
-
 returns-2 : tie.Need-returns-2
 returns-2 c = sym (unsound _ (λ n. omega arith))
 
@@ -56,7 +53,6 @@ numbers-sound-spec =
     returns
     cast-factor
     factor-requires
-    cast-if2
     returns-2
     returns-3
     returns-4

@@ -1,6 +1,7 @@
 -- `restore::restore` meets its contract. The invariant: the cursor is before record i, and the records before it are taken.
 use borrow.Author.Needs.{needs}
-use mathlib.Core.Path.{_≡_, sym, ap, _∙_, subst}
+use mathlib.Core.Path.{_≡_, refl, sym, ap, _∙_, subst}
+use mathlib.Core.Bool.{true}
 use Prim.Native.Nat.{ℕ, _+_, _-_, _≤_, _<_}
 use native.Mathlib.Omega.{arith}
 use lib.ListN.{length}
@@ -14,10 +15,10 @@ use Rattle.restore.proofs.restore.Statement.{statement}
 use Rattle.restore.proofs.restore.Tie as tie
 
 abbrev Inv-loop : tie.InvT-loop
-Inv-loop bytes n connections₀ tree₀ cursor₀ i₀ connections tree cursor i = (i ≤ n) × Cursor i cursor × Taken bytes i connections tree
+Inv-loop bytes n s₀ cursor₀ apart₀ i₀ s cursor apart i = (i ≤ n) × Cursor i cursor × Taken bytes i (s .connections) (s .tree .bytes) × (apart ≡ true)
 
 abbrev μ-loop : tie.MeasureT-loop
-μ-loop bytes n connections₀ tree₀ cursor₀ i₀ connections tree cursor i = n - i
+μ-loop bytes n s₀ cursor₀ apart₀ i₀ s cursor apart i = n - i
 
 nobody-requires : tie.Need-nobody-requires Inv-loop μ-loop
 nobody-requires c κs = search needs
@@ -35,6 +36,7 @@ loop-holds c =
       omega arith,
       cursor-first (a .args .bytes .now) (a .args .n) (a .pre .0) (c .next .result) (c .next .ensures),
       taken-none (a .args .bytes .now) (m .before .nobody .result) (m .empty .result) (m .before .nobody .ensures) (m .empty .ensures),
+      refl,
     )
 
 -- the record is whole
@@ -77,27 +79,11 @@ handle-small c =
 cast-k : tie.Need-cast-k Inv-loop μ-loop
 cast-k c = search needs
 
-cast-anchor : tie.Need-cast-anchor Inv-loop μ-loop
-cast-anchor c = search needs
-
 cast-length : tie.Need-cast-length Inv-loop μ-loop
 cast-length c = search needs
 
 run-free-requires : tie.Need-run-free-requires Inv-loop μ-loop
 run-free-requires c κs = omega (arith, numbers-read (c .before .before .before .before))
-
-answer-requires : tie.Need-answer-requires Inv-loop μ-loop
-answer-requires c κs = search needs
-
-returns : tie.Need-returns Inv-loop μ-loop
-returns c =
-    let f = c .before .before in
-    let r = f .before .before .before .before .before in
-    let l = r .before .before .loop in
-    let a = r .before .before .before .before .before .before .before in
-    restores-not (records (a .args .bytes .now) (a .args .n)) (c .answer .result) (c .answer .ensures .0)
-    (turn-clash (a .args .bytes .now) (a .args .n) (l .i) (r .before .loop-test .taken) (a .pre .1) (r .connection-at .result) (connection-read r)
-    (l .connections) (l .tree) (l .inv .2) (λ g e. sym (not-true (f .run-free .result) (c .before .if1 .taken)) ∙ f .run-free .ensures g e))
 
 set-run-requires : tie.Need-set-run-requires Inv-loop μ-loop
 set-run-requires c κs =
@@ -105,7 +91,7 @@ set-run-requires c κs =
     let l = r .before .before .loop in
     let a = r .before .before .before .before .before .before .before .args in
     let n = numbers-read r in
-    (omega arith, omega arith, omega arith, omega arith, taken-tree (a .bytes .now) (l .i) (l .connections) (l .tree) (l .inv .2))
+    (omega arith, omega arith, omega arith, omega arith, taken-tree (a .bytes .now) (l .i) (l .s .connections) (l .s .tree .bytes) (l .inv .2))
 
 handle-at-requires : tie.Need-handle-at-requires Inv-loop μ-loop
 handle-at-requires c κs = room (c .before .before .before .before .before .before .before .before .before)
@@ -113,11 +99,11 @@ handle-at-requires c κs = room (c .before .before .before .before .before .befo
 cast-h : tie.Need-cast-h Inv-loop μ-loop
 cast-h c = search needs
 
-mul-connections : tie.Need-mul-connections Inv-loop μ-loop
-mul-connections c = omega (arith, handle-small c)
+mul-c : tie.Need-mul-c Inv-loop μ-loop
+mul-c c = omega (arith, handle-small c)
 
-array-set-from-connections : tie.Need-array-set-from-connections Inv-loop μ-loop
-array-set-from-connections c = omega (arith, handle-small c)
+element-set-from-c : tie.Need-element-set-from-c Inv-loop μ-loop
+element-set-from-c c = omega (arith, handle-small c)
 
 next-requires-2 : tie.Need-next-requires-2 Inv-loop μ-loop
 next-requires-2 c κs = omega (arith, room (c .before .before .before .before .before .before .before .before .before .before))
@@ -139,20 +125,28 @@ loop-again c =
       omega arith,
       cursor-next (a .args .bytes .now) (a .args .n) (a .pre .0) (l .i) (r .before .loop-test .taken) (l .cursor) (l .inv .1) (c .next2 .result) (c .next2 .ensures),
       turn-takes (a .args .bytes .now) (a .args .n) (l .i) (r .before .loop-test .taken) (a .pre .1) (r .connection-at .result) (connection-read r)
-          (l .connections) (l .tree) (l .inv .2) (s .set-run .last .0) (h .handle-at .result) (handle-read h)
+          (l .s .connections) (l .s .tree .bytes) (l .inv .2) (s .set-run .last .0) (h .handle-at .result) (handle-read h)
           (λ g e. sym (not-false (f .run-free .result) (s .before .before .if1 .left)) ∙ f .run-free .ensures g e) (s .set-run .ensures),
+      l .inv .3,
     )
 
-answer-requires-2 : tie.Need-answer-requires-2 Inv-loop μ-loop
-answer-requires-2 c κs = search needs
+returns : tie.Need-returns Inv-loop μ-loop
+returns c =
+    let l = c .before .loop in
+    let a = c .before .before .before .before .before .before .args in
+    let q : l .i ≡ a .n = omega arith in
+    restores-all (a .bytes .now) (a .n) (l .s .connections) (l .s .tree .bytes) _ (subst (λ (m : ℕ). Taken (a .bytes .now) m (l .s .connections) (l .s .tree .bytes)) q (l .inv .2))
+    (l .inv .3) refl refl (omega (arith, l .inv .1))
 
 returns-2 : tie.Need-returns-2 Inv-loop μ-loop
 returns-2 c =
-    let l = c .before .before .loop in
-    let a = c .before .before .before .before .before .before .before .args in
-    let q : l .i ≡ a .n = omega arith in
-    restores-all (a .bytes .now) (a .n) (l .connections) (l .tree) (c .answer2 .result) (subst (λ (m : ℕ). Taken (a .bytes .now) m (l .connections) (l .tree)) q (l .inv .2))
-    (c .answer2 .ensures .0) (c .answer2 .ensures .1) (c .answer2 .ensures .2) (omega (arith, c .answer2 .ensures .3, l .inv .1))
+    let f = c .before in
+    let r = f .before .before .before .before .before in
+    let l = r .before .before .loop in
+    let a = r .before .before .before .before .before .before .before in
+    restores-not (records (a .args .bytes .now) (a .args .n)) _ refl
+    (turn-clash (a .args .bytes .now) (a .args .n) (l .i) (r .before .loop-test .taken) (a .pre .1) (r .connection-at .result) (connection-read r)
+    (l .s .connections) (l .s .tree .bytes) (l .inv .2) (λ g e. sym (not-true (f .run-free .result) (c .if1 .taken)) ∙ f .run-free .ensures g e))
 
 pub restore-spec : {M : Type 1} → statement M
 restore-spec =
@@ -166,19 +160,16 @@ restore-spec =
     loop-holds
     connection-at-requires
     cast-k
-    cast-anchor
     cast-length
     run-free-requires
-    answer-requires
-    returns
     set-run-requires
     handle-at-requires
     cast-h
-    mul-connections
-    array-set-from-connections
+    mul-c
+    element-set-from-c
     next-requires-2
     add-i
     loop-less
     loop-again
-    answer-requires-2
+    returns
     returns-2)

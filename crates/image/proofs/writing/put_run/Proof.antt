@@ -22,17 +22,14 @@ put-number-requires-2 c κs = search needs
 add-put-number-2 : tie.Need-add-put-number-2
 add-put-number-2 c = search needs
 
-cast-put-number-3 : tie.Need-cast-put-number-3
-cast-put-number-3 c = search needs
-
 put-number-requires-3 : tie.Need-put-number-requires-3
 put-number-requires-3 c κs = search needs
 
 add-put-number-3 : tie.Need-add-put-number-3
 add-put-number-3 c = search needs
 
-cast-put-number-4 : tie.Need-cast-put-number-4
-cast-put-number-4 c = search needs
+cast-put-number-3 : tie.Need-cast-put-number-3
+cast-put-number-3 c = search needs
 
 put-number-requires-4 : tie.Need-put-number-requires-4
 put-number-requires-4 c κs = search needs
@@ -44,7 +41,7 @@ returns : tie.Need-returns
 returns c =
     let fourth = c .before .before in
     let third = fourth .before .before .before .before .before in
-    let second = third .before .before .before .before .before in
+    let second = third .before .before .before .before in
     let first = second .before .before .before .before .before in
     let a = first .before .before .before .args in
     run-put (a .buffer .now) (a .at) (a .handle) (a .c .k) (a .c .anchor) (a .c .length) (first .put-number .ensures) (second .put-number2 .ensures) (third .put-number3 .ensures) (fourth .put-number4 .ensures)
@@ -59,10 +56,9 @@ put-run-spec =
     cast-put-number-2
     put-number-requires-2
     add-put-number-2
-    cast-put-number-3
     put-number-requires-3
     add-put-number-3
-    cast-put-number-4
+    cast-put-number-3
     put-number-requires-4
     same-length
     returns)

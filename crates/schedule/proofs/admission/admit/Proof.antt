@@ -14,11 +14,6 @@ use Rattle.schedule.proofs.Exits.{admits, plan-says, admit-refused, adm
 use Rattle.schedule.proofs.admission.admit.Statement.{statement}
 use Rattle.schedule.proofs.admission.admit.Tie as tie
 
-returns : tie.Need-returns
-returns c =
-    let a = c .before in
-    admits (a .args .t1) (a .pre) _ _ _ _ _ (sym (admit-1 (a .args .t1) _ _ _ _ (c .if1 .taken)))
-
 -- where the plan goes, and the bounds that it tells
 placed : (c : tie.After-k) → planStep (isLive (c .before .before .before .before .before .before .before .args .t1) (c .before .before .before .before .before .before .before .args .handle)) (taken (c .before .before .before .before .before .before .before .args .t1 .connections)) (c .before .before .before .before .before .before .before .args .interval) (c .before .before .before .before .before .before .before .args .floor) (c .before .before .before .before .before .before .before .args .ceiling) ≡ places (c .k .given .0 .0) (c .k .given .0 .1 .0)
 placed c =
@@ -47,10 +42,13 @@ enum-known-k : tie.Need-enum-known-k
 enum-known-k c = search needs
 
 cast-new-connection : tie.Need-cast-new-connection
-cast-new-connection c = omega (arith, bounds (c .before), small (c .before))
+cast-new-connection c = search needs
 
 cast-new-connection-2 : tie.Need-cast-new-connection-2
 cast-new-connection-2 c = omega (arith, bounds (c .before), small (c .before))
+
+cast-new-connection-3 : tie.Need-cast-new-connection-3
+cast-new-connection-3 c = omega (arith, bounds (c .before), small (c .before))
 
 new-connection-requires : tie.Need-new-connection-requires
 new-connection-requires c κs = omega (arith, bounds (c .before), small (c .before))
@@ -80,33 +78,37 @@ cast-factor c = search needs
 factor-requires : tie.Need-factor-requires
 factor-requires c κs = bounds (c .before .before .before .before) .deep
 
-cast-t26 : tie.Need-cast-t26
-cast-t26 c = search needs
+cast-t24 : tie.Need-cast-t24
+cast-t24 c = search needs
 
-cast-t27 : tie.Need-cast-t27
-cast-t27 c = omega (arith, bounds (c .before .before .before .before .before), small (c .before .before .before .before .before))
+cast-t23 : tie.Need-cast-t23
+cast-t23 c = omega (arith, bounds (c .before .before .before .before .before), small (c .before .before .before .before .before))
 
-returns-2 : tie.Need-returns-2
-returns-2 c =
+returns : tie.Need-returns
+returns c =
     let r = c .before in
     let a = r .before .before .before .before .before .before .before in
     admits (a .args .t1) (a .pre) _ _ _ _ _
-    (admit-refused (a .args .t1) (a .pre) _ _ _ _ (r .before .before .before .before .before .before .if1 .left) _
+    (admit-refused (a .args .t1) (a .pre) _ _ _ _ (r .before .before .before .before .before .before .if1 .taken) _
     (plan-says (a .args .t1) (a .pre) _ _ _ _ (r .before .before .plan .result) (r .before .before .plan .ensures) ∙ ap ofPlan (r .r .given .1)))
 
-returns-3 : tie.Need-returns-3
-returns-3 c =
+returns-2 : tie.Need-returns-2
+returns-2 c =
     let k = c .before .before .before .before .before in
     let a = k .before .before .before .before .before .before .before in
     admits (a .args .t1) (a .pre) _ _ _ _ _
-    (admit-made (a .args .t1) (a .pre) _ _ _ _ (k .before .before .before .before .before .before .if1 .left) _ _ _ _ _ (placed k)
+    (admit-made (a .args .t1) (a .pre) _ _ _ _ (k .before .before .before .before .before .before .if1 .taken) _ _ _ _ _ (placed k)
     (planned-free _ _ _ _ _ _ _ (placed k)) (c .factor .ensures .is) (c .before .before .before .new-connection .ensures) (c .before .set-run .ensures))
+
+returns-3 : tie.Need-returns-3
+returns-3 c =
+    let a = c .before in
+    admits (a .args .t1) (a .pre) _ _ _ _ _ (sym (admit-1 (a .args .t1) _ _ _ _ (c .if1 .left)))
 
 pub admit-spec : {M : Type 1} → statement M
 admit-spec =
     tie.close
     (tie.spec
-    returns
     mul-old
     element-copy-out-old
     plan-requires
@@ -114,6 +116,7 @@ admit-spec =
     enum-known-k
     cast-new-connection
     cast-new-connection-2
+    cast-new-connection-3
     new-connection-requires
     cast-set-run
     cast-set-run-2
@@ -122,7 +125,8 @@ admit-spec =
     element-set-from-c
     cast-factor
     factor-requires
-    cast-t26
-    cast-t27
+    cast-t24
+    cast-t23
+    returns
     returns-2
     returns-3)

@@ -29,23 +29,20 @@ numbers c = good-sound (c .before .before .before .args .t1) (c .before .before 
 cast-minus-mod : tie.Need-cast-minus-mod
 cast-minus-mod c = search needs
 
-cast-minus-mod-2 : tie.Need-cast-minus-mod-2
-cast-minus-mod-2 c = search needs
-
 minus-mod-requires : tie.Need-minus-mod-requires
-minus-mod-requires c κs = numbers (c .before .before) .deep
+minus-mod-requires c κs = numbers (c .before) .deep
 
-mul-t16 : tie.Need-mul-t16
-mul-t16 c =
-    let n = numbers (c .before .before .before) in
-    let a = c .before .before .before .before .before .before .args in
+mul-t15 : tie.Need-mul-t15
+mul-t15 c =
+    let n = numbers (c .before .before) in
+    let a = c .before .before .before .before .before .args in
     let g : 2 ^ connection (a .t1) (a .handle) .k ≤ 512 = pow-mono (n .deep) in
     omega (arith, c .minus-mod .ensures .below)
 
 returns-2 : tie.Need-returns-2
 unfolding slotsToAnchor
 returns-2 c =
-    let t = c .before .before .before in
+    let t = c .before .before in
     let a = t .before .before .before .args in
     ap (λ (n : ℕ). slots (6 * n)) (c .minus-mod .ensures .is) ∙ sym (anchor-ok (a .t1) _ _ (t .before .before .if1 .left) (t .if2 .taken))
 
@@ -55,4 +52,4 @@ returns-3 c = sym (anchor-3 (c .before .before .before .args .t1) _ _ (c .before
 pub anchor-spec : {M : Type 1} → statement M
 anchor-spec =
     tie.close
-    (tie.spec returns mul-c element-copy-out-c cast-minus-mod cast-minus-mod-2 minus-mod-requires mul-t16 returns-2 returns-3)
+    (tie.spec returns mul-c element-copy-out-c cast-minus-mod minus-mod-requires mul-t15 returns-2 returns-3)

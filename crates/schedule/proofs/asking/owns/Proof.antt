@@ -10,11 +10,8 @@ use Rattle.schedule.proofs.asking.owns.Tie as tie
 cast-minus-mod : tie.Need-cast-minus-mod
 cast-minus-mod c = search needs
 
-cast-minus-mod-2 : tie.Need-cast-minus-mod-2
-cast-minus-mod-2 c = search needs
-
 minus-mod-requires : tie.Need-minus-mod-requires
-minus-mod-requires c κs = c .before .before .before .pre (c .before .before .if1 .taken) .deep
+minus-mod-requires c κs = c .before .before .pre (c .before .if1 .taken) .deep
 
 cast-result : tie.Need-cast-result
 cast-result c = search needs
@@ -23,12 +20,12 @@ returns : tie.Need-returns
 unfolding owns belongs
 returns c =
     let m = c .before .minus-mod in
-    let a = c .before .before .before .before .before in
-    rw (c .before .before .before .before .if1 .taken) (ap (λ (o : ℕ). ltb o (a .args .c .length)) (m .ensures .is))
+    let a = c .before .before .before .before in
+    rw (c .before .before .before .if1 .taken) (ap (λ (o : ℕ). ltb o (a .args .c .length)) (m .ensures .is))
 
 returns-2 : tie.Need-returns-2
 unfolding owns
 returns-2 c = rw (c .if1 .left)
 
 pub owns-spec : {M : Type 1} → statement M
-owns-spec = tie.close (tie.spec cast-minus-mod cast-minus-mod-2 minus-mod-requires cast-result returns returns-2)
+owns-spec = tie.close (tie.spec cast-minus-mod minus-mod-requires cast-result returns returns-2)

@@ -12,9 +12,6 @@ use Rattle.schedule.proofs.Exits.{drops, drop-made}
 use Rattle.schedule.proofs.dropping.drop.Statement.{statement}
 use Rattle.schedule.proofs.dropping.drop.Tie as tie
 
-returns : tie.Need-returns
-returns c = drops (c .before .args .t1) (c .before .pre) _ _ (sym (drop-1 (c .before .args .t1) _ (c .if1 .taken)))
-
 mul-c : tie.Need-mul-c
 mul-c c = search needs
 
@@ -27,16 +24,13 @@ cast-set-run c = search needs
 cast-set-run-2 : tie.Need-cast-set-run-2
 cast-set-run-2 c = search needs
 
-cast-set-run-3 : tie.Need-cast-set-run-3
-cast-set-run-3 c = search needs
-
 -- the numbers of the live connection
 numbers : (c : tie.Then2) → Numbers (connection (c .before .before .before .args .t1) (c .before .before .before .args .handle))
 numbers c = good-sound (c .before .before .before .args .t1) (c .before .before .before .pre) .numbers _ (c .if2 .taken)
 
 set-run-requires : tie.Need-set-run-requires
 set-run-requires c κs =
-    let t = c .before .before .before .before in
+    let t = c .before .before .before in
     let a = t .before .before .before in
     let n = numbers t in
     (n .deep, n .anchored, omega arith, le-trans (n .ceiled) (n .whole), (taken (a .args .t1 .connections), good-tree (a .args .t1) (a .pre)))
@@ -44,36 +38,38 @@ set-run-requires c κs =
 nobody-requires : tie.Need-nobody-requires
 nobody-requires c κs = search needs
 
-mul-t20 : tie.Need-mul-t20
-mul-t20 c = search needs
+mul-t19 : tie.Need-mul-t19
+mul-t19 c = search needs
 
 element-set-from-s : tie.Need-element-set-from-s
 element-set-from-s c = search needs
 
+returns : tie.Need-returns
+returns c =
+    let t = c .before .before .before .before .before in
+    let a = t .before .before .before in
+    drops (a .args .t1) (a .pre) _ _ (drop-made (a .args .t1) (a .pre) _ (t .before .before .if1 .taken) (t .if2 .taken) _ _ (c .nobody .ensures) (c .before .set-run .ensures))
+
 returns-2 : tie.Need-returns-2
 returns-2 c =
-    let t = c .before .before .before .before .before .before in
-    let a = t .before .before .before in
-    drops (a .args .t1) (a .pre) _ _ (drop-made (a .args .t1) (a .pre) _ (t .before .before .if1 .left) (t .if2 .taken) _ _ (c .nobody .ensures) (c .before .set-run .ensures))
+    let a = c .before .before .before in
+    drops (a .args .t1) (a .pre) _ _ (sym (drop-3 (a .args .t1) _ (c .before .before .if1 .taken) (c .if2 .left)))
 
 returns-3 : tie.Need-returns-3
-returns-3 c =
-    let a = c .before .before .before in
-    drops (a .args .t1) (a .pre) _ _ (sym (drop-3 (a .args .t1) _ (c .before .before .if1 .left) (c .if2 .left)))
+returns-3 c = drops (c .before .args .t1) (c .before .pre) _ _ (sym (drop-1 (c .before .args .t1) _ (c .if1 .left)))
 
 pub drop-spec : {M : Type 1} → statement M
 drop-spec =
     tie.close
     (tie.spec
-    returns
     mul-c
     element-copy-out-c
     cast-set-run
     cast-set-run-2
-    cast-set-run-3
     set-run-requires
     nobody-requires
-    mul-t20
+    mul-t19
     element-set-from-s
+    returns
     returns-2
     returns-3)

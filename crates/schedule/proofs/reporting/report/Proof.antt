@@ -15,19 +15,11 @@ use Rattle.schedule.proofs.Exits.{reports, report-made, aim-below}
 use Rattle.schedule.proofs.reporting.report.Statement.{statement}
 use Rattle.schedule.proofs.reporting.report.Tie as tie
 
-returns : tie.Need-returns
-returns c = reports (c .before .args .t1) (c .before .pre) _ _ _ (sym (report-1 (c .before .args .t1) _ _ (c .if1 .taken)))
-
 mul-c : tie.Need-mul-c
 mul-c c = search needs
 
 element-copy-out-c : tie.Need-element-copy-out-c
 element-copy-out-c c = search needs
-
-returns-2 : tie.Need-returns-2
-returns-2 c =
-    let a = c .before .before .before .before in
-    reports (a .args .t1) (a .pre) _ _ _ (sym (report-3 (a .args .t1) _ _ (c .before .before .before .if1 .left) (not-true _ (c .if2 .taken))))
 
 -- the live connection, and its numbers
 live : (c : tie.Else2) → isLive (c .before .before .before .before .args .t1) (c .before .before .before .before .args .handle) ≡ true
@@ -41,12 +33,6 @@ cast-if3 c = search needs
 
 mul-if3 : tie.Need-mul-if3
 mul-if3 c = search needs
-
-returns-3 : tie.Need-returns-3
-returns-3 c =
-    let e = c .before .before in
-    let a = e .before .before .before .before in
-    reports (a .args .t1) (a .pre) _ _ _ (sym (report-7 (a .args .t1) _ _ (e .before .before .before .if1 .left) (live e) (c .if3 .taken)))
 
 move-meter-requires : tie.Need-move-meter-requires
 move-meter-requires c κs =
@@ -73,38 +59,52 @@ length-of-requires c κs = search needs
 with-meter-requires : tie.Need-with-meter-requires
 with-meter-requires c κs = search needs
 
-mul-t13 : tie.Need-mul-t13
-mul-t13 c = search needs
+mul-t24 : tie.Need-mul-t24
+mul-t24 c = search needs
 
 element-set-from-s : tie.Need-element-set-from-s
 element-set-from-s c = search needs
 
-returns-4 : tie.Need-returns-4
-returns-4 c =
+returns : tie.Need-returns
+returns c =
+    let a = c .before .before .before .before in
+    reports (a .args .t1) (a .pre) _ _ _ (sym (report-3 (a .args .t1) _ _ (c .before .before .before .if1 .taken) (not-true _ (c .if2 .taken))))
+
+returns-2 : tie.Need-returns-2
+returns-2 c =
+    let e = c .before .before in
+    let a = e .before .before .before .before in
+    reports (a .args .t1) (a .pre) _ _ _ (sym (report-7 (a .args .t1) _ _ (e .before .before .before .if1 .taken) (live e) (c .if3 .taken)))
+
+returns-3 : tie.Need-returns-3
+returns-3 c =
     let st = c .before .before .settle in
     let m = c .before .before .before .before .move-meter in
     let i = c .before .before .before .before .before in
     let e = i .before .before in
     let a = e .before .before .before .before in
     reports (a .args .t1) (a .pre) _ _ _
-    (report-made (a .args .t1) (a .pre) _ _ (e .before .before .before .if1 .left) (live e) (i .if3 .left) (m .result) (st .result) (st .last .0) _ _
+    (report-made (a .args .t1) (a .pre) _ _ (e .before .before .before .if1 .taken) (live e) (i .if3 .left) (m .result) (st .result) (st .last .0) _ _
     (m .ensures) (st .ensures) (c .before .length-of .ensures) (c .with-meter .ensures))
+
+returns-4 : tie.Need-returns-4
+returns-4 c = reports (c .before .args .t1) (c .before .pre) _ _ _ (sym (report-1 (c .before .args .t1) _ _ (c .if1 .left)))
 
 pub report-spec : {M : Type 1} → statement M
 report-spec =
     tie.close
     (tie.spec
-    returns
     mul-c
     element-copy-out-c
-    returns-2
     cast-if3
     mul-if3
-    returns-3
     move-meter-requires
     settle-requires
     length-of-requires
     with-meter-requires
-    mul-t13
+    mul-t24
     element-set-from-s
+    returns
+    returns-2
+    returns-3
     returns-4)

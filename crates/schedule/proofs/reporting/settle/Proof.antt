@@ -16,15 +16,12 @@ use Rattle.schedule.proofs.reporting.settle.Tie as tie
 cast-k : tie.Need-cast-k
 cast-k c = search needs
 
-cast-anchor : tie.Need-cast-anchor
-cast-anchor c = search needs
-
 cast-length : tie.Need-cast-length
 cast-length c = search needs
 
 returns : tie.Need-returns
 returns c =
-    let a = c .before .before .before .before .args in
+    let a = c .before .before .before .args in
     record {
       answer = λ f e. ap (Answer.kept) (c .if1 .taken) ∙ sym (change-kept (a .c .length) (a .aim) (roomToGrow f (a .c)) (c .if1 .taken));
       tree = λ f e. e;
@@ -36,7 +33,7 @@ set-run-requires c κs = search needs
 returns-2 : tie.Need-returns-2
 returns-2 c =
     let t = c .before .before in
-    let a = t .before .before .before .before .before .args in
+    let a = t .before .before .before .before .args in
     record {
       answer = λ f e. sym (change-shrunk (a .c .length) (a .aim) (roomToGrow f (a .c)) (t .if2 .taken));
       tree = c .set-run .ensures;
@@ -52,26 +49,26 @@ add-set-run : tie.Need-add-set-run
 add-set-run c = search needs
 
 -- whether there is room, as the tree was asked
-room : (c : tie.After-is-free) (f : ℕ → Bool) → c .before .before .before .before .before .before .before .before .args .tree .now ≡ treeOf f → c .is-free .result ≡ roomToGrow f (c .before .before .before .before .before .before .before .before .args .c)
+room : (c : tie.After-is-free) (f : ℕ → Bool) → c .before .before .before .before .before .before .before .args .tree .now ≡ treeOf f → c .is-free .result ≡ roomToGrow f (c .before .before .before .before .before .before .before .args .c)
 unfolding roomToGrow
 room c f e =
-    let a = c .before .before .before .before .before .before .before .before .args in
+    let a = c .before .before .before .before .before .before .before .args in
     c .is-free .ensures f e ∙ ap (free f (a .c .k)) (c .before .class-at .ensures .is)
 
 set-run-requires-2 : tie.Need-set-run-requires-2
 set-run-requires-2 c κs =
-    let a = c .before .before .before .before .before .before .before .before .before .before in
+    let a = c .before .before .before .before .before .before .before .before .before in
     let n = a .pre .0 in
     let above : a .args .c .length < a .args .aim = omega arith in
     (n .deep, n .anchored, omega arith, le-trans (omega (arith, a .pre .1)) (n .whole), a .pre .2)
 
-add-t17 : tie.Need-add-t17
-add-t17 c = search needs
+add-t16 : tie.Need-add-t16
+add-t16 c = search needs
 
 returns-3 : tie.Need-returns-3
 returns-3 c =
     let t = c .before .before .before in
-    let a = t .before .before .before .before .before .before .before .before .before .args in
+    let a = t .before .before .before .before .before .before .before .before .args in
     record {
       answer = λ f e. sym (change-grown (a .c .length) (a .aim) (roomToGrow f (a .c)) (omega arith) (sym (room (t .before) f e) ∙ t .if3 .taken));
       tree = c .before .set-run2 .ensures;
@@ -79,7 +76,7 @@ returns-3 c =
 
 returns-4 : tie.Need-returns-4
 returns-4 c =
-    let a = c .before .before .before .before .before .before .before .before .before .args in
+    let a = c .before .before .before .before .before .before .before .before .args in
     record {
       answer = λ f e. sym (change-tight (a .c .length) (a .aim) (roomToGrow f (a .c)) (omega arith) (sym (room (c .before) f e) ∙ c .if3 .left));
       tree = λ f e. e;
@@ -90,7 +87,6 @@ settle-spec =
     tie.close
     (tie.spec
     cast-k
-    cast-anchor
     cast-length
     returns
     set-run-requires
@@ -99,6 +95,6 @@ settle-spec =
     is-free-requires
     add-set-run
     set-run-requires-2
-    add-t17
+    add-t16
     returns-3
     returns-4)

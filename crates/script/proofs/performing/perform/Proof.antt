@@ -10,8 +10,8 @@ use Rattle.script.proofs.Acting.{asked, inside, acts-command, acts-fres
 use Rattle.script.proofs.performing.perform.Statement.{statement}
 use Rattle.script.proofs.performing.perform.Tie as tie
 
-order-requires : tie.Need-order-requires
-order-requires c κs = search needs
+order-of-requires : tie.Need-order-of-requires
+order-of-requires c κs = search needs
 
 enum-known-command : tie.Need-enum-known-command
 enum-known-command c = search needs
@@ -48,28 +48,28 @@ cast-n c = search needs
 
 slice-relend-prefix-put-saved : tie.Need-slice-relend-prefix-put-saved
 slice-relend-prefix-put-saved c =
-    let w = inside (c .before .before .before .before .before .before .order .ensures) (c .before .before .size .given .1) in
+    let w = inside (c .before .before .before .before .before .before .order-of .ensures) (c .before .before .size .given .1) in
     omega (arith, w, c .before .before .before .before .before .before .before .before .before .before .before .pre .2)
 
 slice-aggregate-put-saved : tie.Need-slice-aggregate-put-saved
 slice-aggregate-put-saved c =
-    let w = inside (c .before .before .before .before .before .before .before .order .ensures) (c .before .before .before .size .given .1) in
-    sym (length-take-le (c .before .before .before .size .given .0 .0) (c .before .before .before .before .before .before .before .order .last .1 .0) (omega (arith, w, c .before .before .before .before .before .before .before .before .before .before .before .before .pre .2)))
+    let w = inside (c .before .before .before .before .before .before .before .order-of .ensures) (c .before .before .before .size .given .1) in
+    sym (length-take-le (c .before .before .before .size .given .0 .0) (c .before .before .before .before .before .before .before .order-of .last .1 .0) (omega (arith, w, c .before .before .before .before .before .before .before .before .before .before .before .before .pre .2)))
 
 put-saved-requires : tie.Need-put-saved-requires
 put-saved-requires c κs =
-    let w = inside (c .before .before .before .before .before .before .before .order .ensures) (c .before .before .before .size .given .1) in
-    let t = length-take-le (c .before .before .before .size .given .0 .0) (c .before .before .before .before .before .before .before .order .last .1 .0) (omega (arith, w, c .before .before .before .before .before .before .before .before .before .before .before .before .pre .2)) in
+    let w = inside (c .before .before .before .before .before .before .before .order-of .ensures) (c .before .before .before .size .given .1) in
+    let t = length-take-le (c .before .before .before .size .given .0 .0) (c .before .before .before .before .before .before .before .order-of .last .1 .0) (omega (arith, w, c .before .before .before .before .before .before .before .before .before .before .before .before .pre .2)) in
     (c .before .before .before .before .before .before .before .before .before .before .before .before .pre .0, c .before .before .before .before .before .before .before .before .before .before .before .before .pre .3, omega (arith, t, w))
 
 enum-known-n : tie.Need-enum-known-n
 enum-known-n c = search needs
 
 slice-reshare-prefix-load : tie.Need-slice-reshare-prefix-load
-slice-reshare-prefix-load c = inside (c .before .before .before .before .before .order .ensures) (c .before .n .given .1)
+slice-reshare-prefix-load c = inside (c .before .before .before .before .before .order-of .ensures) (c .before .n .given .1)
 
 slice-aggregate-load : tie.Need-slice-aggregate-load
-slice-aggregate-load c = sym (length-take-le (c .before .before .n .given .0 .0) (c .before .before .before .before .before .before .order .last .1 .0) (inside (c .before .before .before .before .before .before .order .ensures) (c .before .before .n .given .1)))
+slice-aggregate-load c = sym (length-take-le (c .before .before .n .given .0 .0) (c .before .before .before .before .before .before .order-of .last .1 .0) (inside (c .before .before .before .before .before .before .order-of .ensures) (c .before .before .n .given .1)))
 
 load-requires : tie.Need-load-requires
 load-requires c κs = search needs
@@ -111,7 +111,7 @@ same-length-2 : tie.Need-same-length-2
 same-length-2 c = search needs
 
 returns : tie.Need-returns
-returns c = acts-command (c .before .before .before .before .before .before .before .command .given .0 .0) (c .before .before .before .before .before .obey .result) (asked (c .before .before .before .before .before .before .before .before .before .before .before .order .ensures) (c .before .before .before .before .before .before .before .command .given .1)) (c .before .before .before .before .before .obey .ensures) (c .before .before .put-reply .ensures)
+returns c = acts-command (c .before .before .before .before .before .before .before .command .given .0 .0) (c .before .before .before .before .before .obey .result) (asked (c .before .before .before .before .before .before .before .before .before .before .before .order-of .ensures) (c .before .before .before .before .before .before .before .command .given .1)) (c .before .before .before .before .before .obey .ensures) (c .before .before .put-reply .ensures)
 
 same-length-3 : tie.Need-same-length-3
 same-length-3 c = search needs
@@ -121,7 +121,7 @@ same-length-4 c = search needs
 
 returns-2 : tie.Need-returns-2
 unfolding performed
-returns-2 c = acts-fresh (c .fresh .result) (asked (c .before .before .before .before .before .before .before .before .before .before .order .ensures) (c .before .before .before .before .before .before .enum-told .given .1)) (c .fresh .ensures) (c .before .before .before .put-word .ensures)
+returns-2 c = acts-fresh (c .fresh .result) (asked (c .before .before .before .before .before .before .before .before .before .before .order-of .ensures) (c .before .before .before .before .before .before .enum-told .given .1)) (c .fresh .ensures) (c .before .before .before .put-word .ensures)
 
 same-length-5 : tie.Need-same-length-5
 same-length-5 c = search needs
@@ -130,7 +130,7 @@ same-length-6 : tie.Need-same-length-6
 same-length-6 c = search needs
 
 returns-3 : tie.Need-returns-3
-returns-3 c = acts-image (asked (c .before .before .before .before .before .before .before .before .before .before .before .order .ensures) (c .before .before .before .before .before .before .before .enum-told2 .given .1)) (c .before .before .before .before .before .before .before .before .before .before .before .before .before .before .before .before .pre .0) (c .before .before .before .before .put-image .ensures)
+returns-3 c = acts-image (asked (c .before .before .before .before .before .before .before .before .before .before .before .order-of .ensures) (c .before .before .before .before .before .before .before .enum-told2 .given .1)) (c .before .before .before .before .before .before .before .before .before .before .before .before .before .before .before .before .pre .0) (c .before .before .before .before .put-image .ensures)
 
 same-length-7 : tie.Need-same-length-7
 same-length-7 c = search needs
@@ -139,9 +139,9 @@ same-length-8 : tie.Need-same-length-8
 same-length-8 c = search needs
 
 returns-4 : tie.Need-returns-4
-returns-4 c = acts-save (c .before .before .before .before .before .before .before .before .size .given .0 .0) (asked (c .before .before .before .before .before .before .before .before .before .before .before .before .order .ensures) (c .before .before .before .before .before .before .before .before .size .given .1)) (c .before .before .before .before .before .before .before .before .before .before .before .before .before .before .before .before .before .pre .0)
-    (let w = inside (c .before .before .before .before .before .before .before .before .before .before .before .before .order .ensures) (c .before .before .before .before .before .before .before .before .size .given .1) in
-    let t = length-take-le (c .before .before .before .before .before .before .before .before .size .given .0 .0) (c .before .before .before .before .before .before .before .before .before .before .before .before .order .last .1 .0) (omega (arith, w, c .before .before .before .before .before .before .before .before .before .before .before .before .before .before .before .before .before .pre .2)) in
+returns-4 c = acts-save (c .before .before .before .before .before .before .before .before .size .given .0 .0) (asked (c .before .before .before .before .before .before .before .before .before .before .before .before .order-of .ensures) (c .before .before .before .before .before .before .before .before .size .given .1)) (c .before .before .before .before .before .before .before .before .before .before .before .before .before .before .before .before .before .pre .0)
+    (let w = inside (c .before .before .before .before .before .before .before .before .before .before .before .before .order-of .ensures) (c .before .before .before .before .before .before .before .before .size .given .1) in
+    let t = length-take-le (c .before .before .before .before .before .before .before .before .size .given .0 .0) (c .before .before .before .before .before .before .before .before .before .before .before .before .order-of .last .1 .0) (omega (arith, w, c .before .before .before .before .before .before .before .before .before .before .before .before .before .before .before .before .before .pre .2)) in
     within-as (ap (savedLine (c .before .before .before .before .before .before .before .before .before .before .before .before .before .before .before .before .before .args .s)) t) (c .before .before .before .before .put-saved .ensures))
 
 same-length-9 : tie.Need-same-length-9
@@ -151,7 +151,7 @@ same-length-10 : tie.Need-same-length-10
 same-length-10 c = search needs
 
 returns-5 : tie.Need-returns-5
-returns-5 c = acts-load (take (c .before .before .before .before .before .before .before .before .before .before .before .before .before .n .given .0 .0) (c .before .before .before .before .before .before .before .before .before .before .before .before .before .before .before .before .before .order .last .1 .0)) (c .before .before .before .before .before .before .before .before .before .before .load .result) (asked (c .before .before .before .before .before .before .before .before .before .before .before .before .before .before .before .before .before .order .ensures) (c .before .before .before .before .before .before .before .before .before .before .before .before .before .n .given .1)) (c .before .before .before .before .before .before .before .before .before .before .load .ensures) (c .before .before .before .before .before .before .before .put-loading .ensures) (c .before .before .put-word2 .ensures)
+returns-5 c = acts-load (take (c .before .before .before .before .before .before .before .before .before .before .before .before .before .n .given .0 .0) (c .before .before .before .before .before .before .before .before .before .before .before .before .before .before .before .before .before .order-of .last .1 .0)) (c .before .before .before .before .before .before .before .before .before .before .load .result) (asked (c .before .before .before .before .before .before .before .before .before .before .before .before .before .before .before .before .before .order-of .ensures) (c .before .before .before .before .before .before .before .before .before .before .before .before .before .n .given .1)) (c .before .before .before .before .before .before .before .before .before .before .load .ensures) (c .before .before .before .before .before .before .before .put-loading .ensures) (c .before .before .put-word2 .ensures)
 
 same-length-11 : tie.Need-same-length-11
 same-length-11 c = search needs
@@ -160,7 +160,7 @@ same-length-12 : tie.Need-same-length-12
 same-length-12 c = search needs
 
 returns-6 : tie.Need-returns-6
-returns-6 c = acts-state (asked (c .before .before .before .before .before .before .before .before .before .before .before .before .before .before .order .ensures) (c .before .before .before .before .before .before .before .before .before .before .enum-told3 .given .1)) (c .before .before .before .before .before .before .before .before .before .before .before .before .before .before .before .before .before .before .before .pre .0) (c .before .before .before .before .before .before .before .put-state .ensures) (c .before .before .put-word3 .ensures)
+returns-6 c = acts-state (asked (c .before .before .before .before .before .before .before .before .before .before .before .before .before .before .order-of .ensures) (c .before .before .before .before .before .before .before .before .before .before .enum-told3 .given .1)) (c .before .before .before .before .before .before .before .before .before .before .before .before .before .before .before .before .before .before .before .pre .0) (c .before .before .before .before .before .before .before .put-state .ensures) (c .before .before .put-word3 .ensures)
 
 same-length-13 : tie.Need-same-length-13
 same-length-13 c = search needs
@@ -169,13 +169,13 @@ same-length-14 : tie.Need-same-length-14
 same-length-14 c = search needs
 
 returns-7 : tie.Need-returns-7
-returns-7 c = acts-bad (asked (c .before .before .before .before .before .before .before .before .before .order .ensures) (c .before .before .before .before .before .enum-told4 .given .1)) (c .before .before .before .before .before .before .before .before .before .before .before .before .before .before .pre .0) (c .before .before .put-word4 .ensures)
+returns-7 c = acts-bad (asked (c .before .before .before .before .before .before .before .before .before .order-of .ensures) (c .before .before .before .before .before .enum-told4 .given .1)) (c .before .before .before .before .before .before .before .before .before .before .before .before .before .before .pre .0) (c .before .before .put-word4 .ensures)
 
 pub perform-spec : {M : Type 1} → statement M
 perform-spec =
     tie.close
     (tie.spec
-    order-requires
+    order-of-requires
     enum-known-command
     obey-requires
     put-reply-requires

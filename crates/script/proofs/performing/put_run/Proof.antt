@@ -16,27 +16,24 @@ cast-put-number c = search needs
 put-number-requires : tie.Need-put-number-requires
 put-number-requires c κs = omega (arith, c .before .before .before .before .before .before .before .pre, c .before .before .before .before .put-decimal .ensures .ends, puts-length (c .before .before .before .before .put-decimal .ensures), decimal-length 2 (c .before .before .before .before .before .before .before .args .handle) (omega arith), number-room 2 (c .before .before .before .before .before .before .before .args .c .k) (omega arith))
 
+put-number-requires-2 : tie.Need-put-number-requires-2
+put-number-requires-2 c κs = omega (arith, c .before .before .before .before .before .before .before .before .before .before .before .pre, c .before .before .before .before .before .before .before .before .put-decimal .ensures .ends, puts-length (c .before .before .before .before .before .before .before .before .put-decimal .ensures), c .before .before .before .put-number .ensures .ends, puts-length (c .before .before .before .put-number .ensures), decimal-length 2 (c .before .before .before .before .before .before .before .before .before .before .before .args .handle) (omega arith), number-room 2 (c .before .before .before .before .before .before .before .before .before .before .before .args .c .k) (omega arith), number-room 9 (c .before .before .before .before .before .before .before .before .before .before .before .args .c .anchor) (omega arith))
+
 cast-put-number-2 : tie.Need-cast-put-number-2
 cast-put-number-2 c = search needs
 
-put-number-requires-2 : tie.Need-put-number-requires-2
-put-number-requires-2 c κs = omega (arith, c .before .before .before .before .before .before .before .before .before .before .before .before .pre, c .before .before .before .before .before .before .before .before .before .put-decimal .ensures .ends, puts-length (c .before .before .before .before .before .before .before .before .before .put-decimal .ensures), c .before .before .before .before .put-number .ensures .ends, puts-length (c .before .before .before .before .put-number .ensures), decimal-length 2 (c .before .before .before .before .before .before .before .before .before .before .before .before .args .handle) (omega arith), number-room 2 (c .before .before .before .before .before .before .before .before .before .before .before .before .args .c .k) (omega arith), number-room 4 (c .before .before .before .before .before .before .before .before .before .before .before .before .args .c .anchor) (omega arith))
-
-cast-put-number-3 : tie.Need-cast-put-number-3
-cast-put-number-3 c = search needs
-
 put-number-requires-3 : tie.Need-put-number-requires-3
-put-number-requires-3 c κs = omega (arith, c .before .before .before .before .before .before .before .before .before .before .before .before .before .before .before .before .before .pre, c .before .before .before .before .before .before .before .before .before .before .before .before .before .before .put-decimal .ensures .ends, puts-length (c .before .before .before .before .before .before .before .before .before .before .before .before .before .before .put-decimal .ensures), c .before .before .before .before .before .before .before .before .before .put-number .ensures .ends, puts-length (c .before .before .before .before .before .before .before .before .before .put-number .ensures), c .before .before .before .before .put-number2 .ensures .ends, puts-length (c .before .before .before .before .put-number2 .ensures), decimal-length 2 (c .before .before .before .before .before .before .before .before .before .before .before .before .before .before .before .before .before .args .handle) (omega arith), number-room 2 (c .before .before .before .before .before .before .before .before .before .before .before .before .before .before .before .before .before .args .c .k) (omega arith), number-room 4 (c .before .before .before .before .before .before .before .before .before .before .before .before .before .before .before .before .before .args .c .anchor) (omega arith), number-room 4 (c .before .before .before .before .before .before .before .before .before .before .before .before .before .before .before .before .before .args .c .length) (omega arith))
+put-number-requires-3 c κs = omega (arith, c .before .before .before .before .before .before .before .before .before .before .before .before .before .before .before .before .pre, c .before .before .before .before .before .before .before .before .before .before .before .before .before .put-decimal .ensures .ends, puts-length (c .before .before .before .before .before .before .before .before .before .before .before .before .before .put-decimal .ensures), c .before .before .before .before .before .before .before .before .put-number .ensures .ends, puts-length (c .before .before .before .before .before .before .before .before .put-number .ensures), c .before .before .before .before .put-number2 .ensures .ends, puts-length (c .before .before .before .before .put-number2 .ensures), decimal-length 2 (c .before .before .before .before .before .before .before .before .before .before .before .before .before .before .before .before .args .handle) (omega arith), number-room 2 (c .before .before .before .before .before .before .before .before .before .before .before .before .before .before .before .before .args .c .k) (omega arith), number-room 9 (c .before .before .before .before .before .before .before .before .before .before .before .before .before .before .before .before .args .c .anchor) (omega arith), number-room 4 (c .before .before .before .before .before .before .before .before .before .before .before .before .before .before .before .before .args .c .length) (omega arith))
 
 same-length : tie.Need-same-length
 same-length c = search needs
 
 returns : tie.Need-returns
 returns c =
-    let s = c .before .before .before .before .before .before .before .before .before .before .before .before .before .before .before .before .before .before .before .before .args in
+    let s = c .before .before .before .before .before .before .before .before .before .before .before .before .before .before .before .before .before .before .before .args in
     record {
-      puts = three-numbers (decimal (s .handle)) (s .c .k) (s .c .anchor) (s .c .length) (c .before .before .before .before .before .before .before .before .before .before .before .before .before .before .before .before .before .put-decimal .ensures) (c .before .before .before .before .before .before .before .before .before .before .before .before .put-number .ensures) (c .before .before .before .before .before .before .before .put-number2 .ensures) (c .before .before .put-number3 .ensures);
-      room = omega (arith, c .before .before .before .before .before .before .before .before .before .before .before .before .before .before .before .before .before .before .before .before .pre, c .before .before .before .before .before .before .before .before .before .before .before .before .before .before .before .before .before .put-decimal .ensures .ends, puts-length (c .before .before .before .before .before .before .before .before .before .before .before .before .before .before .before .before .before .put-decimal .ensures), c .before .before .before .before .before .before .before .before .before .before .before .before .put-number .ensures .ends, puts-length (c .before .before .before .before .before .before .before .before .before .before .before .before .put-number .ensures), c .before .before .before .before .before .before .before .put-number2 .ensures .ends, puts-length (c .before .before .before .before .before .before .before .put-number2 .ensures), c .before .before .put-number3 .ensures .ends, puts-length (c .before .before .put-number3 .ensures), decimal-length 2 (c .before .before .before .before .before .before .before .before .before .before .before .before .before .before .before .before .before .before .before .before .args .handle) (omega arith), number-room 2 (c .before .before .before .before .before .before .before .before .before .before .before .before .before .before .before .before .before .before .before .before .args .c .k) (omega arith), number-room 4 (c .before .before .before .before .before .before .before .before .before .before .before .before .before .before .before .before .before .before .before .before .args .c .anchor) (omega arith), number-room 4 (c .before .before .before .before .before .before .before .before .before .before .before .before .before .before .before .before .before .before .before .before .args .c .length) (omega arith));
+      puts = three-numbers (decimal (s .handle)) (s .c .k) (s .c .anchor) (s .c .length) (c .before .before .before .before .before .before .before .before .before .before .before .before .before .before .before .before .put-decimal .ensures) (c .before .before .before .before .before .before .before .before .before .before .before .put-number .ensures) (c .before .before .before .before .before .before .before .put-number2 .ensures) (c .before .before .put-number3 .ensures);
+      room = omega (arith, c .before .before .before .before .before .before .before .before .before .before .before .before .before .before .before .before .before .before .before .pre, c .before .before .before .before .before .before .before .before .before .before .before .before .before .before .before .before .put-decimal .ensures .ends, puts-length (c .before .before .before .before .before .before .before .before .before .before .before .before .before .before .before .before .put-decimal .ensures), c .before .before .before .before .before .before .before .before .before .before .before .put-number .ensures .ends, puts-length (c .before .before .before .before .before .before .before .before .before .before .before .put-number .ensures), c .before .before .before .before .before .before .before .put-number2 .ensures .ends, puts-length (c .before .before .before .before .before .before .before .put-number2 .ensures), c .before .before .put-number3 .ensures .ends, puts-length (c .before .before .put-number3 .ensures), decimal-length 2 (c .before .before .before .before .before .before .before .before .before .before .before .before .before .before .before .before .before .before .before .args .handle) (omega arith), number-room 2 (c .before .before .before .before .before .before .before .before .before .before .before .before .before .before .before .before .before .before .before .args .c .k) (omega arith), number-room 9 (c .before .before .before .before .before .before .before .before .before .before .before .before .before .before .before .before .before .before .before .args .c .anchor) (omega arith), number-room 4 (c .before .before .before .before .before .before .before .before .before .before .before .before .before .before .before .before .before .before .before .args .c .length) (omega arith));
     }
 
 pub put-run-spec : {M : Type 1} → statement M
@@ -46,9 +43,8 @@ put-run-spec =
     put-decimal-requires
     cast-put-number
     put-number-requires
-    cast-put-number-2
     put-number-requires-2
-    cast-put-number-3
+    cast-put-number-2
     put-number-requires-3
     same-length
     returns)

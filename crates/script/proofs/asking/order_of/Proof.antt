@@ -1,12 +1,12 @@
--- `script::order` meets its contract: the word that the line is or opens with, or what a command line says.
+-- `script::order_of` meets its contract: the word that the line is or opens with, or what a command line says.
 use borrow.Author.Needs.{needs}
 use mathlib.Core.Path.{refl, sym, _∙_}
 use mathlib.Core.List.{[]}
 use native.Mathlib.Omega.{arith}
 use Rattle.script.specs.Orders.{fresh, save, state, load, orderLine, allowed}
 use Rattle.script.proofs.Asked.{asks-word, asks-command, asks-nothing}
-use Rattle.script.proofs.asking.order.Statement.{statement}
-use Rattle.script.proofs.asking.order.Tie as tie
+use Rattle.script.proofs.asking.order_of.Statement.{statement}
+use Rattle.script.proofs.asking.order_of.Tie as tie
 
 slice-aggregate-is-word : tie.Need-slice-aggregate-is-word
 slice-aggregate-is-word c = search needs
@@ -103,8 +103,8 @@ returns-8 c =
       within = tt;
     }
 
-pub order-spec : {M : Type 1} → statement M
-order-spec =
+pub order-of-spec : {M : Type 1} → statement M
+order-of-spec =
     tie.close
     (tie.spec
     slice-aggregate-is-word

@@ -1,0 +1,354 @@
+// The same algorithms in C, as an engineer would write them there: the schedule behind a pointer, changed in place.
+// It performs the same scripts as crates/bench, each call between two marks, and prints the same answers.
+#include <stdbool.h>
+#include <stddef.h>
+#include <stdint.h>
+#include <stdio.h>
+#include <string.h>
+#include <unistd.h>
+
+struct connection {
+    bool live;
+    uint8_t k;
+    uint16_t anchor, length, floor, ceiling;
+    uint32_t estimate;
+};
+
+struct schedule {
+    struct connection connections[64];
+    uint8_t tree[128];
+};
+
+struct placed {
+    uint16_t factor, anchor, length;
+};
+
+// ---- the tree
+
+static uint32_t mirror(uint32_t k, uint32_t p) {
+    p = (p & 0x5555) << 1 | (p >> 1 & 0x5555);
+    p = (p & 0x3333) << 2 | (p >> 2 & 0x3333);
+    p = (p & 0x0f0f) << 4 | (p >> 4 & 0x0f0f);
+    p = (p & 0x00ff) << 8 | (p >> 8 & 0x00ff);
+    return p >> (16 - k);
+}
+
+static uint32_t node(uint32_t k, uint32_t r) { return 1u << k | mirror(k, r); }
+
+static bool is_set(const uint8_t *tree, uint32_t n) { return tree[n >> 3] >> (n & 7) & 1; }
+
+static void write_node(uint8_t *tree, uint32_t n, bool taken) {
+    uint8_t bit = 1u << (n & 7);
+    if (taken)
+        tree[n >> 3] |= bit;
+    else
+        tree[n >> 3] &= ~bit;
+}
+
+static void write_below(uint8_t *tree, uint32_t n, uint32_t left, bool taken) {
+    write_node(tree, n, taken);
+    if (left > 0) {
+        write_below(tree, 2 * n, left - 1, taken);
+        write_below(tree, 2 * n + 1, left - 1, taken);
+    }
+}
+
+static void join_above(uint8_t *tree, uint32_t n) {
+    while (n > 1) {
+        n >>= 1;
+        bool either = is_set(tree, 2 * n) || is_set(tree, 2 * n + 1);
+        if (is_set(tree, n) == either) return;
+        write_node(tree, n, either);
+    }
+}
+
+static void write_class(uint8_t *tree, uint32_t k, uint32_t r, bool taken) {
+    uint32_t n = node(k, r);
+    write_below(tree, n, 9 - k, taken);
+    join_above(tree, n);
+}
+
+// ---- the run
+
+static uint32_t class_at(uint32_t k, uint32_t anchor, uint32_t j) { return (anchor + j) & ((1u << k) - 1); }
+
+static void set_run(uint8_t *tree, uint32_t k, uint32_t anchor, uint32_t from, uint32_t to, bool taken) {
+    for (uint32_t j = from; j < to; j++) write_class(tree, k, class_at(k, anchor, j), taken);
+}
+
+// ---- admit
+
+static int k_of(uint32_t slots) {
+    if (slots < 6 || slots > 3200) return -1;
+    int k = 0;
+    while (k < 9 && 6u << (k + 1) <= slots) k++;
+    return k;
+}
+
+static int place(const uint8_t *tree, uint32_t k, uint32_t floor) {
+    bool taken[512];
+    uint16_t anchors[512], open[512];
+    uint32_t f = 1u << k;
+    anchors[0] = 0;
+    taken[0] = is_set(tree, f);
+    for (uint32_t p = 1; p < f; p++) {
+        anchors[p] = anchors[p >> 1] >> 1 | (p & 1) << (k - 1);
+        taken[anchors[p]] = is_set(tree, f + p);
+    }
+    for (uint32_t c = f, free = 0; c-- > 0;) {
+        free = taken[c] ? 0 : free + 1;
+        open[c] = free;
+    }
+    for (uint32_t p = 0; p < f; p++) {
+        uint32_t j = 0, free;
+        while (j < floor && (free = open[class_at(k, anchors[p], j)]) > 0) j += free;
+        if (j >= floor) return anchors[p];
+    }
+    return -1;
+}
+
+__attribute__((noinline)) static int admit(struct schedule *s, uint32_t handle, uint32_t slots, uint32_t floor, uint32_t ceiling, struct placed *out) {
+    if (handle > 63) return 1;
+    struct connection *c = &s->connections[handle];
+    if (c->live) return 2;
+    int k = k_of(slots);
+    if (k < 0) return 4;
+    uint32_t f = 1u << k;
+    if (floor == 0 || ceiling < floor || f < ceiling) return 5;
+    int anchor = place(s->tree, k, floor);
+    if (anchor < 0) return 6;
+    set_run(s->tree, k, anchor, 0, floor, true);
+    *c = (struct connection){true, k, anchor, floor, floor, ceiling, floor * 7500 - 2500};
+    *out = (struct placed){f, anchor, floor};
+    return 0;
+}
+
+// ---- drop, report
+
+__attribute__((noinline)) static int drop(struct schedule *s, uint32_t handle) {
+    if (handle > 63) return 1;
+    struct connection *c = &s->connections[handle];
+    if (!c->live) return 3;
+    set_run(s->tree, c->k, c->anchor, 0, c->length, false);
+    memset(c, 0, sizeof *c);
+    return 0;
+}
+
+enum settled { KEPT, GROWN, SHRUNK, TIGHT };
+
+static uint32_t moved(uint32_t estimate, uint32_t sample) {
+    if (estimate <= sample) return estimate + (sample - estimate) / 8;
+    return estimate - ((estimate - sample - 1) / 8 + 1);
+}
+
+static uint32_t target(uint32_t need, uint32_t floor, uint32_t ceiling) {
+    if (need < floor) need = floor;
+    return need < ceiling ? need : ceiling;
+}
+
+__attribute__((noinline)) static int report(struct schedule *s, uint32_t handle, uint32_t sample, enum settled *out) {
+    if (handle > 63) return 1;
+    struct connection *c = &s->connections[handle];
+    if (!c->live) return 3;
+    if (c->length * 7500u < sample) return 7;
+    c->estimate = moved(c->estimate, sample);
+    uint32_t aim = target((c->estimate + 2500 + 7499) / 7500, c->floor, c->ceiling);
+    if (aim == c->length) {
+        *out = KEPT;
+    } else if (aim < c->length) {
+        set_run(s->tree, c->k, c->anchor, aim, c->length, false);
+        c->length = aim;
+        *out = SHRUNK;
+    } else if (!is_set(s->tree, node(c->k, class_at(c->k, c->anchor, c->length)))) {
+        set_run(s->tree, c->k, c->anchor, c->length, c->length + 1, true);
+        c->length++;
+        *out = GROWN;
+    } else {
+        *out = TIGHT;
+    }
+    return 0;
+}
+
+// ---- owner, anchor
+
+static uint32_t minus_mod(uint32_t k, uint32_t a, uint32_t b) { return (a - b) & ((1u << k) - 1); }
+
+__attribute__((noinline)) static int owner(const struct schedule *s, uint32_t block) {
+    for (int h = 0; h < 64; h++) {
+        const struct connection *c = &s->connections[h];
+        if (c->live && minus_mod(c->k, block, c->anchor) < c->length) return h;
+    }
+    return -1;
+}
+
+__attribute__((noinline)) static int anchor(const struct schedule *s, uint32_t handle, uint32_t block, uint32_t *slots) {
+    if (handle > 63) return 1;
+    const struct connection *c = &s->connections[handle];
+    if (!c->live) return 3;
+    *slots = 6 * minus_mod(c->k, c->anchor, block);
+    return 0;
+}
+
+// ---- save, load
+
+static uint32_t number(const uint8_t *bytes, uint32_t width) {
+    uint32_t n = 0;
+    while (width > 0) n = n << 8 | bytes[--width];
+    return n;
+}
+
+static uint8_t *put(uint8_t *at, uint32_t width, uint32_t n) {
+    for (; width > 0; width--, n >>= 8) *at++ = n;
+    return at;
+}
+
+__attribute__((noinline)) static int save(const struct schedule *s, uint8_t *buffer, size_t room, size_t *size) {
+    uint32_t n = 0;
+    for (int h = 0; h < 64; h++) n += s->connections[h].live;
+    *size = 138 + 18 * n;
+    if (room < *size) return 8;
+    uint8_t *at = put(put(put(buffer, 2, 2), 2, 1), 2, n);
+    for (int h = 0; h < 64; h++) {
+        const struct connection *c = &s->connections[h];
+        if (!c->live) continue;
+        at = put(put(put(put(at, 2, 14), 2, 2), 1, h), 1, c->k);
+        at = put(put(put(at, 2, c->anchor), 2, c->length), 2, c->floor);
+        at = put(put(at, 2, c->ceiling), 4, c->estimate);
+    }
+    memcpy(put(put(at, 2, 128), 2, 3), s->tree, 128);
+    return 0;
+}
+
+static const uint8_t *pass(const uint8_t *at, const uint8_t *end, uint32_t kind, uint32_t size) {
+    if (at == NULL || end - at < 4 || end - at < 4 + (ptrdiff_t)size) return NULL;
+    if (number(at, 2) != size || number(at + 2, 2) != kind) return NULL;
+    return at + 4 + size;
+}
+
+static bool framed(const uint8_t *bytes, const uint8_t *end, uint32_t *n) {
+    const uint8_t *at = pass(bytes, end, 1, 2);
+    if (at == NULL) return false;
+    *n = number(bytes + 4, 2);
+    if (*n > 64) return false;
+    for (uint32_t i = 0; i < *n; i++) at = pass(at, end, 2, 14);
+    return pass(at, end, 3, 128) == end;
+}
+
+static struct connection connection_at(const uint8_t *at) {
+    return (struct connection){true, at[5], number(at + 6, 2), number(at + 8, 2), number(at + 10, 2), number(at + 12, 2), number(at + 14, 4)};
+}
+
+static bool numbers_sound(struct connection c) {
+    if (c.k > 9) return false;
+    uint32_t f = 1u << c.k;
+    return c.anchor < f && c.floor >= 1 && c.floor <= c.length && c.length <= c.ceiling && c.ceiling <= f && c.estimate <= c.length * 7500u;
+}
+
+static bool records_sound(const uint8_t *bytes, uint32_t n) {
+    int least = 0;
+    for (const uint8_t *at = bytes + 6; n > 0; n--, at += 18) {
+        if (at[4] > 63 || at[4] < least || !numbers_sound(connection_at(at))) return false;
+        least = at[4] + 1;
+    }
+    return true;
+}
+
+static bool run_free(const uint8_t *tree, struct connection c) {
+    for (uint32_t j = 0; j < c.length; j++)
+        if (is_set(tree, node(c.k, class_at(c.k, c.anchor, j)))) return false;
+    return true;
+}
+
+static bool restore(struct schedule *s, const uint8_t *bytes, uint32_t n) {
+    memset(s, 0, sizeof *s);
+    for (const uint8_t *at = bytes + 6; n > 0; n--, at += 18) {
+        struct connection c = connection_at(at);
+        if (!run_free(s->tree, c)) return false;
+        set_run(s->tree, c.k, c.anchor, 0, c.length, true);
+        s->connections[at[4]] = c;
+    }
+    return true;
+}
+
+__attribute__((noinline)) static int load(struct schedule *s, const uint8_t *bytes, size_t size, uint32_t *count) {
+    struct schedule new;
+    if (!framed(bytes, bytes + size, count)) return 9;
+    if (!records_sound(bytes, *count)) return 10;
+    if (!restore(&new, bytes, *count)) return 11;
+    if (memcmp(bytes + size - 128, new.tree, 128) != 0) return 12;
+    *s = new;
+    return 0;
+}
+
+// ---- the script
+
+static char script[65537];
+static uint8_t bytes[32768];
+
+static void mark(void) { (void)!write(1, "", 0); }
+
+static void tell(const char *line) { (void)!write(1, line, strlen(line)); }
+
+static void perform(struct schedule *s, char *line) {
+    static const char *const words[] = {"kept", "grown", "shrunk", "tight"};
+    char said[64];
+    uint32_t a, b, c, d, slots;
+    size_t size;
+    int no = 0, used = 0;
+    if (sscanf(line, "admit %u %u %u %u", &a, &b, &c, &d) == 4) {
+        struct placed at;
+        mark();
+        no = admit(s, a, b, c, d, &at);
+        mark();
+        sprintf(said, "ok %u %u %u\n", at.factor, at.anchor, at.length);
+    } else if (sscanf(line, "drop %u", &a) == 1) {
+        mark();
+        no = drop(s, a);
+        mark();
+        sprintf(said, "ok\n");
+    } else if (sscanf(line, "report %u %u", &a, &b) == 2) {
+        enum settled how;
+        mark();
+        no = report(s, a, b, &how);
+        mark();
+        if (no == 0) sprintf(said, "%s %u\n", words[how], s->connections[a].length);
+    } else if (sscanf(line, "owner %u", &a) == 1) {
+        mark();
+        int h = owner(s, a);
+        mark();
+        if (h < 0)
+            sprintf(said, "idle\n");
+        else
+            sprintf(said, "owner %d\n", h);
+    } else if (sscanf(line, "anchor %u %u", &a, &b) == 2) {
+        mark();
+        no = anchor(s, a, b, &slots);
+        mark();
+        sprintf(said, "slots %u\n", slots);
+    } else if (sscanf(line, "save %u", &a) == 1) {
+        mark();
+        no = save(s, bytes, a, &size);
+        mark();
+        sprintf(said, "saved %zu\n", size);
+    } else if (strncmp(line, "load ", 5) == 0) {
+        for (size = 0, line += 5; sscanf(line, "%2x%n", &a, &used) == 1; line += used) bytes[size++] = a;
+        mark();
+        no = load(s, bytes, size, &a);
+        mark();
+        sprintf(said, "loaded %u\n", a);
+    } else {
+        mark();
+        mark();
+        sprintf(said, "nothing\n");
+    }
+    if (no != 0) sprintf(said, "no %d\n", no);
+    tell(said);
+}
+
+int main(void) {
+    static struct schedule s;
+    size_t n = 0;
+    for (ssize_t got; (got = read(0, script + n, sizeof script - 1 - n)) > 0;) n += got;
+    for (char *line = strtok(script, "\n"); line != NULL; line = strtok(NULL, "\n")) perform(&s, line);
+    return 0;
+}

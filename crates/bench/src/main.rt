@@ -1,0 +1,209 @@
+//! Performs a script as the probe does, each call of the library between two marks: what bench/run counts.
+ghost use Prim.Native.Nat.{_≤_};
+ghost use lib.ListN.{length};
+ghost use Rattle.rules.specs.Good.{Good};
+use image::load;
+use image::save;
+use input::Input;
+use input::read_all;
+use libc::STDOUT_FILENO;
+use line::put_reply;
+use rules::Command;
+use rules::Loading;
+use rules::Reply;
+use rules::Saving;
+use rules::Schedule;
+use schedule::admit;
+use schedule::anchor;
+use schedule::drop;
+use schedule::fresh;
+use schedule::owner;
+use schedule::report;
+use script::Order;
+use script::order_of;
+use text::find;
+use text::refusal_number;
+
+// Each write is a point at which the instructions are counted.
+fn mark() {
+    libc::write(STDOUT_FILENO, b"");
+}
+
+fn tell(reply: Reply) {
+    let mut out = [0u8; 28];
+    let count = put_reply(&mut out, 0, reply);
+    io::write_all(STDOUT_FILENO, &out[..count]);
+}
+
+fn tell_number(word: &[u8], n: u64) {
+    io::write_all(STDOUT_FILENO, word);
+    io::print_decimal(STDOUT_FILENO, n);
+    io::write_all(STDOUT_FILENO, b"\n");
+}
+
+fn admitted(s: Schedule, handle: u32, interval: u32, floor: u32, ceiling: u32) -> Schedule
+    requires { ⌜ Good s ⌝ }
+    ensures { λ r. ⌜ Good r ⌝ }
+{
+    mark();
+    let done = admit(s, handle, interval, floor, ceiling);
+    let left = done.schedule;
+    mark();
+    let answer = done.answer;
+    tell(Reply::Admission(answer));
+    left
+}
+
+fn dropped(s: Schedule, handle: u32) -> Schedule
+    requires { ⌜ Good s ⌝ }
+    ensures { λ r. ⌜ Good r ⌝ }
+{
+    mark();
+    let done = drop(s, handle);
+    let left = done.schedule;
+    mark();
+    let answer = done.answer;
+    tell(Reply::Dropping(answer));
+    left
+}
+
+fn reported(s: Schedule, handle: u32, sample: u32) -> Schedule
+    requires { ⌜ Good s ⌝ }
+    ensures { λ r. ⌜ Good r ⌝ }
+{
+    mark();
+    let done = report(s, handle, sample);
+    let left = done.schedule;
+    mark();
+    let answer = done.answer;
+    tell(Reply::Reporting(answer));
+    left
+}
+
+fn owned(s: Schedule, block: u32)
+    requires { ⌜ Good s ⌝ }
+{
+    mark();
+    let answer = owner(s, block);
+    mark();
+    tell(Reply::Ownership(answer));
+}
+
+fn anchored(s: Schedule, handle: u32, block: u32)
+    requires { ⌜ Good s ⌝ }
+{
+    mark();
+    let answer = anchor(s, handle, block);
+    mark();
+    tell(Reply::Distance(answer));
+}
+
+fn saved(s: Schedule, buffer: &mut [u8])
+    requires { ⌜ Good s ⌝ }
+{
+    mark();
+    let answer = save(s, buffer);
+    mark();
+    match answer {
+        Saving::Size(size) => tell_number(b"saved ", size as u64),
+        Saving::Refused(r) => tell_number(b"no ", refusal_number(r) as u64),
+    }
+}
+
+fn loaded(s: Schedule, bytes: &[u8]) -> Schedule
+    requires { ⌜ Good s ⌝ }
+    ensures { λ r. ⌜ Good r ⌝ }
+{
+    mark();
+    let done = load(s, bytes);
+    let left = done.schedule;
+    mark();
+    let answer = done.answer;
+    match answer {
+        Loading::Count(n) => tell_number(b"loaded ", n as u64),
+        Loading::Refused(r) => tell_number(b"no ", refusal_number(r) as u64),
+    }
+    left
+}
+
+fn obeyed(s: Schedule, command: Command) -> Schedule
+    requires { ⌜ Good s ⌝ }
+    ensures { λ r. ⌜ Good r ⌝ }
+{
+    match command {
+        Command::Admit {
+            handle,
+            interval,
+            floor,
+            ceiling,
+        } => admitted(s, handle, interval, floor, ceiling),
+        Command::Drop(handle) => dropped(s, handle),
+        Command::Report { handle, sample } => reported(s, handle, sample),
+        Command::Owner(block) => {
+            owned(s, block);
+            s
+        }
+        Command::Anchor { handle, block } => {
+            anchored(s, handle, block);
+            s
+        }
+    }
+}
+
+// Two marks with nothing between them: what the marks themselves take.
+fn nothing() {
+    mark();
+    mark();
+    io::write_all(STDOUT_FILENO, b"nothing\n");
+}
+
+fn perform(s: Schedule, line: &[u8], bytes: &mut [u8]) -> Schedule
+    requires { ⌜ Good s × (length (now line) ≤ 65536) × (32768 ≤ length (now bytes)) ⌝ }
+    ensures { λ r. ⌜ Good r ⌝ }
+{
+    match order_of(line, bytes) {
+        Order::Command(command) => obeyed(s, command),
+        Order::Save => {
+            saved(s, bytes);
+            s
+        }
+        Order::SaveInto(size) => {
+            let n = size as usize;
+            saved(s, &mut bytes[..n]);
+            s
+        }
+        Order::Load(n) => loaded(s, &bytes[..n]),
+        Order::Fresh => fresh(),
+        Order::State => s,
+        Order::Bad => {
+            nothing();
+            s
+        }
+    }
+}
+
+// A tail is not performed.
+fn perform_all(script: &[u8])
+    requires { ⌜ length (now script) ≤ 65536 ⌝ }
+{
+    let mut bytes = [0u8; 32768];
+    let mut s = fresh();
+    let mut start = 0;
+    while start < script.len() {
+        let end = find(script, start, b'\n');
+        if end == script.len() {
+            return;
+        }
+        s = perform(s, &script[start..end], &mut bytes);
+        start = end + 1;
+    }
+}
+
+fn main() {
+    let mut buffer = [0u8; 65536];
+    let input = read_all(&mut buffer);
+    let Input::Bytes(n) = input else {
+        return;
+    };
+    perform_all(&buffer[..n]);
+}
