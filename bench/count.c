@@ -1,24 +1,32 @@
-#include <stdint.h>
+// A plugin of qemu-user: at each write of no bytes it says how many instructions have been executed.
+// Debian's qemu-user takes plugins and has no header for them, so what is used is declared here.
+#include <inttypes.h>
 #include <stdio.h>
-#include <string.h>
-typedef uint64_t qemu_plugin_id_t;
-struct qemu_plugin_tb;
-typedef struct qemu_info_t qemu_info_t;
+
+typedef uint64_t word;
+struct block;
 int qemu_plugin_version = 1;
-enum { QEMU_PLUGIN_INLINE_ADD_U64 };
-void qemu_plugin_register_vcpu_tb_trans_cb(qemu_plugin_id_t, void (*)(qemu_plugin_id_t, struct qemu_plugin_tb *));
-void qemu_plugin_register_vcpu_tb_exec_inline(struct qemu_plugin_tb *, int, void *, uint64_t);
-size_t qemu_plugin_tb_n_insns(const struct qemu_plugin_tb *);
-void qemu_plugin_register_vcpu_syscall_cb(qemu_plugin_id_t, void (*)(qemu_plugin_id_t, unsigned, int64_t, uint64_t, uint64_t, uint64_t, uint64_t, uint64_t, uint64_t, uint64_t, uint64_t));
-static uint64_t count;
-static void block(qemu_plugin_id_t id, struct qemu_plugin_tb *tb) {
-    qemu_plugin_register_vcpu_tb_exec_inline(tb, QEMU_PLUGIN_INLINE_ADD_U64, &count, qemu_plugin_tb_n_insns(tb));
+void qemu_plugin_register_vcpu_tb_trans_cb(word, void (*)(word, struct block *));
+void qemu_plugin_register_vcpu_tb_exec_inline(struct block *, int, void *, word);
+void qemu_plugin_register_vcpu_syscall_cb(word, void (*)(word, unsigned, int64_t, word, word, word, word, word, word, word, word));
+size_t qemu_plugin_tb_n_insns(const struct block *);
+
+enum { ADD = 0, WRITE = 1 };
+static word executed;
+
+static void translated(word id, struct block *b) {
+    (void)id;
+    qemu_plugin_register_vcpu_tb_exec_inline(b, ADD, &executed, qemu_plugin_tb_n_insns(b));
 }
-static void call(qemu_plugin_id_t id, unsigned cpu, int64_t n, uint64_t a, uint64_t b, uint64_t c, uint64_t d, uint64_t e, uint64_t f, uint64_t g, uint64_t h) {
-    if (n == 1 && c == 0) fprintf(stderr, "%lu\n", count);
+
+static void called(word id, unsigned cpu, int64_t call, word file, word from, word size, word d, word e, word f, word g, word h) {
+    (void)id, (void)cpu, (void)file, (void)from, (void)d, (void)e, (void)f, (void)g, (void)h;
+    if (call == WRITE && size == 0) fprintf(stderr, "%" PRIu64 "\n", executed);
 }
-int qemu_plugin_install(qemu_plugin_id_t id, const qemu_info_t *info, int argc, char **argv) {
-    qemu_plugin_register_vcpu_tb_trans_cb(id, block);
-    qemu_plugin_register_vcpu_syscall_cb(id, call);
+
+int qemu_plugin_install(word id, const void *info, int count, char **words) {
+    (void)info, (void)count, (void)words;
+    qemu_plugin_register_vcpu_tb_trans_cb(id, translated);
+    qemu_plugin_register_vcpu_syscall_cb(id, called);
     return 0;
 }

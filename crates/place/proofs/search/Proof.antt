@@ -112,7 +112,7 @@ loop-again : tie.Need-loop-again Inv-loop μ-loop Inv-nodes μ-nodes
 loop-again c =
     let l = c .before .before .before .before .before .loop in
     let a = c .before .before .before .before .before .before .before .before .before .before .args in
-    (l .inv .0, λ t m. rw (c .before .wide .ensures .0, c .before .before .before .class-at .ensures .is) (clear-more t (a .k) (a .room .now) m (l .j) _ (l .inv .1 t m)))
+    (l .inv .0, λ t m. rw (← c .before .before .before .class-at .ensures .is, ← c .before .wide .ensures .0) at (clear-more t (a .k) (a .room .now) m (l .j) _ (l .inv .1 t m)))
 
 returns : tie.Need-returns Inv-loop μ-loop Inv-nodes μ-nodes
 returns c f m =
