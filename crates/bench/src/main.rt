@@ -21,8 +21,11 @@ use schedule::owner;
 use schedule::report;
 use script::Order;
 use script::order_of;
+use show::end;
+use show::number;
+use show::refused;
+use show::word;
 use text::find;
-use text::refusal_number;
 
 // Each write is a point at which the instructions are counted.
 fn mark() {
@@ -32,13 +35,7 @@ fn mark() {
 fn tell(reply: Reply) {
     let mut out = [0u8; 28];
     let count = put_reply(&mut out, 0, reply);
-    io::write_all(STDOUT_FILENO, &out[..count]);
-}
-
-fn tell_number(word: &[u8], n: u64) {
-    io::write_all(STDOUT_FILENO, word);
-    io::print_decimal(STDOUT_FILENO, n);
-    io::write_all(STDOUT_FILENO, b"\n");
+    word(&out[..count]);
 }
 
 fn admitted(s: Schedule, handle: u32, interval: u32, floor: u32, ceiling: u32) -> Schedule
@@ -105,8 +102,12 @@ fn saved(s: Schedule, buffer: &mut [u8])
     let answer = save(s, buffer);
     mark();
     match answer {
-        Saving::Size(size) => tell_number(b"saved ", size as u64),
-        Saving::Refused(r) => tell_number(b"no ", refusal_number(r) as u64),
+        Saving::Size(size) => {
+            word(b"saved");
+            number(size as u64);
+            end();
+        }
+        Saving::Refused(r) => refused(r),
     }
 }
 
@@ -120,8 +121,12 @@ fn loaded(s: Schedule, bytes: &[u8]) -> Schedule
     mark();
     let answer = done.answer;
     match answer {
-        Loading::Count(n) => tell_number(b"loaded ", n as u64),
-        Loading::Refused(r) => tell_number(b"no ", refusal_number(r) as u64),
+        Loading::Count(n) => {
+            word(b"loaded");
+            number(n as u64);
+            end();
+        }
+        Loading::Refused(r) => refused(r),
     }
     left
 }
@@ -154,7 +159,7 @@ fn obeyed(s: Schedule, command: Command) -> Schedule
 fn nothing() {
     mark();
     mark();
-    io::write_all(STDOUT_FILENO, b"nothing\n");
+    word(b"nothing\n");
 }
 
 fn perform(s: Schedule, line: &[u8], bytes: &mut [u8]) -> Schedule

@@ -16,7 +16,6 @@ use rules::Reporting;
 use text::put_count;
 use text::put_number;
 use text::put_word;
-use text::refusal_number;
 
 // The line of a word and a number.
 fn put_with(out: &mut [u8], at: usize, word: &[u8], n: u32) -> usize
@@ -31,7 +30,8 @@ fn put_refused(out: &mut [u8], at: usize, r: Refusal) -> usize
     requires { ⌜ at + 28 ≤ length (now out) ⌝ }
     ensures { λ n. ⌜ PutsAnswer (now (out .entry)) at (refused (numberOf r)) (now (out .exit)) n ⌝ }
 {
-    put_with(out, at, b"no", refusal_number(r))
+    let a = text::put_refused(out, at, r);
+    put_word(out, a, b"\n")
 }
 
 fn put_placed(out: &mut [u8], at: usize, factor: u16, anchor: u16, blocks: u16) -> usize

@@ -82,6 +82,7 @@ fn measure(taken: &[bool; 512], k: u32, room: &mut [u16; 512])
     }
 }
 
+// What is read from an array comes with no bound, what is handed over does.
 fn wide(classes: u16) -> u32
     ensures { λ r. ⌜ (r ≡ classes) × (r < 65536) ⌝ }
 {

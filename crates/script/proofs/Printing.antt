@@ -13,7 +13,7 @@ use Rattle.rules.specs.Ownership.{nobody, at}
 use Rattle.rules.specs.Answers.{Answer}
 use Rattle.rules.specs.Decimal.{decimal}
 use Rattle.rules.specs.Text.{text}
-use Rattle.rules.specs.Words.{spaced}
+use Rattle.rules.specs.Words.{spaced, wordsOf}
 use Rattle.text.specs.Promises.{Puts, PutsWithin}
 use Rattle.text.proofs.Putting.{puts-after, spaced-append}
 use Rattle.script.specs.Hex.{hex}
@@ -32,9 +32,10 @@ connection-line {l} {z = z} {start} {n = n} h c p q =
     ∙ ap (λ (x : List ℕ). x ++ newline) (append-assoc (decimal h) (spaced run) (spaced share) ∙ ap (λ (x : List ℕ). decimal h ++ x) (sym (spaced-append run share))))
     (puts-after p q)
 
--- Equal answers have the same words.
-pub words-as : {entry exit : List ℕ} {next : ℕ} {a b : Answer} → a ≡ b → PutsWords a entry exit next → PutsWords b entry exit next
-words-as {entry} {exit} {next} e p = subst (λ (x : Answer). PutsWords x entry exit next) e p
+-- Equal answers have the same words, which fit where fewer do.
+pub words-as : {most : ℕ} {entry exit : List ℕ} {next : ℕ} {a b : Answer} → most ≤ 27 → a ≡ b → PutsWithin most entry 0 (wordsOf a) exit next → PutsWords b entry exit next
+words-as {entry = entry} {exit} {next} m e p =
+    subst (λ (x : Answer). PutsWords x entry exit next) e (record { puts = p .puts; room = omega (arith, p .room) })
 
 -- A buffer, and a space before it.
 pub buffer-words : (bytes : List ℕ) → 0 < length bytes → text " " ++ hex bytes ≡ bufferWords bytes

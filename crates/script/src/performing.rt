@@ -28,8 +28,8 @@ use schedule::fresh;
 use text::put_count;
 use text::put_decimal;
 use text::put_number;
+use text::put_refused;
 use text::put_word;
-use text::refusal_number;
 
 // Which blocks are whose: handle, k, anchor, length.
 fn put_run(out: &mut [u8], at: usize, handle: u8, c: Connection) -> usize
@@ -92,7 +92,7 @@ fn put_saving(out: &mut [u8], answer: Saving) -> usize
 {
     match answer {
         Saving::Size(size) => put_count(out, 0, b"saved", size as u32),
-        Saving::Refused(r) => put_count(out, 0, b"no", refusal_number(r)),
+        Saving::Refused(r) => put_refused(out, 0, r),
     }
 }
 
@@ -103,7 +103,7 @@ fn put_loading(out: &mut [u8], answer: Loading) -> usize
 {
     match answer {
         Loading::Count(n) => put_count(out, 0, b"loaded", n as u32),
-        Loading::Refused(r) => put_count(out, 0, b"no", refusal_number(r)),
+        Loading::Refused(r) => put_refused(out, 0, r),
     }
 }
 

@@ -9,6 +9,7 @@ pub use reading::opens;
 pub use writing::put_count;
 pub use writing::put_decimal;
 pub use writing::put_number;
+pub use writing::put_refused;
 pub use writing::put_word;
 pub use writing::refusal_number;
 

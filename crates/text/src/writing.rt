@@ -5,7 +5,8 @@ ghost use lib.ListN.{length};
 ghost use mathlib.Core.Path.{_≡_};
 ghost use Rattle.rules.specs.Refusals.{number};
 ghost use Rattle.rules.specs.Decimal.{decimal};
-ghost use Rattle.rules.specs.Words.{spaced};
+ghost use Rattle.rules.specs.Answers.{refused};
+ghost use Rattle.rules.specs.Words.{spaced, wordsOf};
 ghost use Rattle.text.specs.Promises.{Puts, PutsWithin};
 use rules::Refusal;
 
@@ -70,4 +71,12 @@ pub fn refusal_number(r: Refusal) -> u32
         Refusal::BlockOwnedTwice => 11,
         Refusal::TreeDiffers => 12,
     }
+}
+
+/// The words of a refusal.
+pub fn put_refused(out: &mut [u8], at: usize, r: Refusal) -> usize
+    requires { ⌜ at + 13 ≤ length (now out) ⌝ }
+    ensures { λ n. ⌜ PutsWithin 13 (now (out .entry)) at (wordsOf (refused (number r))) (now (out .exit)) n ⌝ }
+{
+    put_count(out, at, b"no", refusal_number(r))
 }

@@ -16,11 +16,11 @@ put-reply-requires c κs = search needs
 array-share-prefix-out : tie.Need-array-share-prefix-out
 array-share-prefix-out c = search needs
 
-slice-aggregate-write-all : tie.Need-slice-aggregate-write-all
-slice-aggregate-write-all c = sym (length-take-le _ _ (omega (arith, c .before .before .put-reply .ensures .room, puts-length (c .before .before .put-reply .ensures .line))))
+slice-aggregate-word : tie.Need-slice-aggregate-word
+slice-aggregate-word c = sym (length-take-le _ _ (omega (arith, c .before .before .put-reply .ensures .room, puts-length (c .before .before .put-reply .ensures .line))))
 
-write-all-requires : tie.Need-write-all-requires
-write-all-requires c κs = search needs
+word-requires : tie.Need-word-requires
+word-requires c κs = search needs
 
 returns : tie.Need-returns
 returns c = search needs
@@ -32,6 +32,6 @@ tell-spec =
     slice-aggregate-put-reply
     put-reply-requires
     array-share-prefix-out
-    slice-aggregate-write-all
-    write-all-requires
+    slice-aggregate-word
+    word-requires
     returns)
