@@ -174,6 +174,7 @@ __attribute__((noinline)) static int report(struct schedule *s, uint32_t handle,
 static uint32_t minus_mod(uint32_t k, uint32_t a, uint32_t b) { return (a - b) & ((1u << k) - 1); }
 
 __attribute__((noinline)) static int owner(const struct schedule *s, uint32_t block) {
+    if (!is_set(s->tree, node(9, block & 511))) return -1;
     for (int h = 0; h < 64; h++) {
         const struct connection *c = &s->connections[h];
         if (c->live && minus_mod(c->k, block, c->anchor) < c->length) return h;

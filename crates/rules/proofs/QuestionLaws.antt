@@ -15,8 +15,9 @@ use borrow.Author.Tests.{lt-ltb, le-ltb}
 use Rattle.rules.specs.declared.Connection.{Connection}
 use Rattle.rules.specs.declared.Schedule.{Schedule}
 use Rattle.rules.specs.Below.{least}
-use Rattle.rules.specs.Time.{minusMod}
-use Rattle.rules.specs.Ownership.{handles, nobody, factor, owns}
+use Rattle.rules.specs.Time.{listBlocks, minusMod}
+use Rattle.rules.specs.Classes.{depth, free}
+use Rattle.rules.specs.Ownership.{handles, nobody, factor, owns, taken}
 use Rattle.rules.specs.Good.{Good}
 use Rattle.rules.specs.Refusals.{check}
 use Rattle.rules.specs.Answers.{refused, owner, idle, slots}
@@ -25,6 +26,7 @@ use Rattle.rules.specs.Owner.{ownerOr, ownerOf}
 use Rattle.rules.specs.Anchor.{slotsToAnchor, anchor}
 use Rattle.rules.proofs.BoolLaws.{is-false}
 use Rattle.rules.proofs.BelowLaws.{least-some, least-none, least-is, least-is-none}
+use Rattle.rules.proofs.SoundLaws.{class-free-ever}
 use Rattle.rules.proofs.EndlessTime.{minusMod-back, minusMod-only}
 use Rattle.rules.proofs.ScheduleLaws.{good-sound, nobody-owns}
 use Rattle.rules.proofs.RefusalLaws.{decided-stop, decided-skip, decided-passed}
@@ -75,6 +77,12 @@ module _ (s : Schedule) (good : Good s) (b : ℕ) where
       to : (o : Option ℕ) → least handles (λ h. owns (connection s h) b) ≡ o → ownerOr o ≡ idle → (h : ℕ) → owns (connection s h) b ≡ false
       to none q e h = is-false (owns (connection s h) b) (λ t. false≢true (sym (least-none handles (λ h. owns (connection s h) b) q h (beyond s good h b t)) ∙ t))
       to (some j) q e h = let z : _≡_ {A = ℕ} 0 1 = cc in absurd (omega arith)
+
+  -- Where the block's own class, its leaf in the tree, is free, it is idle.
+  pub owner-leaf : free (taken (s .connections)) depth (b % listBlocks) ≡ true → ownerOf s b ≡ idle
+  owner-leaf e =
+      let ever = class-free-ever (s .connections) depth (b % listBlocks) (good .isSound) (omega arith) (mod-lt b (omega arith)) .0 e in
+      owner-none s b (λ j l. ever b j refl)
 
 -- ---- anchor
 module _ (s : Schedule) (h b : ℕ) where

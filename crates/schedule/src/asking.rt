@@ -31,6 +31,10 @@ pub fn owner(s: Schedule, block: u32) -> Ownership
     requires { ⌜ Good s ⌝ }
     ensures { λ r. ⌜ ofOwnership r ≡ ownerOf s block ⌝ }
 {
+    // the block's leaf says idle at once
+    if tree::is_free(&s.tree.bytes, 9, block % 512) {
+        return Ownership::Idle;
+    }
     for h in 0..64 {
         if owns(s.connections[h], block) {
             return Ownership::Handle(h as u8);

@@ -1,6 +1,10 @@
 //! Runs the rule sheet's values of the tree that are not marked P, and prints what it finds.
 ghost use Prim.Native.Nat.{_<_, _≤_, _^_};
 ghost use Rattle.rules.specs.Classes.{depth};
+use rules::Schedule;
+use schedule::admit;
+use schedule::drop;
+use schedule::fresh;
 
 // The tree of one connection of length 1.
 fn single(k: u32, anchor: u32) -> [u8; 128]
@@ -9,6 +13,23 @@ fn single(k: u32, anchor: u32) -> [u8; 128]
     let mut t = tree::empty();
     tree::take_class(&mut t, k, anchor);
     t
+}
+
+fn say_bits(s: Schedule) {
+    show::word(b"bits set:");
+    show::number(show::bits(&s.tree.bytes));
+    show::end();
+}
+
+// The same connections, admitted; and none.
+fn admitted() {
+    say_bits(fresh());
+    let eighth = admit(fresh(), 0, 48, 1, 1);
+    say_bits(eighth.schedule);
+    let whole = admit(fresh(), 63, 6, 1, 1);
+    say_bits(whole.schedule);
+    let dropped = drop(whole.schedule, 63);
+    say_bits(dropped.schedule);
 }
 
 fn main() {
@@ -22,4 +43,5 @@ fn main() {
     show::end();
     show::bytes(&whole);
     show::end();
+    admitted();
 }

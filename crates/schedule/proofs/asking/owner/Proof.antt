@@ -1,15 +1,16 @@
--- `schedule::asking::owner` meets its contract. The invariant: no handle before h has the block.
+-- `schedule::asking::owner` meets its contract. An idle leaf says idle. The invariant: no handle before h has the block.
 use borrow.Author.Needs.{needs}
 use mathlib.Core.Path.{_≡_, sym, ap, _∙_}
 use mathlib.Core.Bool.{false}
 use mathlib.Core.Logic.{by-cases}
 use Prim.Native.Nat.{ℕ, _-_, _≤_, _<_}
 use native.Mathlib.Decide.{ℕ-discrete}
+use native.Mathlib.Nat.{mod-lt}
 use native.Mathlib.Omega.{arith}
-use Rattle.rules.specs.Ownership.{owns}
+use Rattle.rules.specs.Ownership.{owns, taken}
 use Rattle.rules.specs.Handles.{connection}
-use Rattle.rules.proofs.ScheduleLaws.{good-sound}
-use Rattle.rules.proofs.QuestionLaws.{owner-found, owner-none}
+use Rattle.rules.proofs.ScheduleLaws.{good-sound, good-tree}
+use Rattle.rules.proofs.QuestionLaws.{owner-found, owner-none, owner-leaf}
 use Rattle.schedule.proofs.asking.owner.Statement.{statement}
 use Rattle.schedule.proofs.asking.owner.Tie as tie
 
@@ -18,6 +19,15 @@ Inv-loop block s h₀ h = (h ≤ 64) × ((j : ℕ) → j < h → owns (connectio
 
 abbrev μ-loop : tie.MeasureT-loop
 μ-loop block s h₀ h = 64 - h
+
+is-free-requires : tie.Need-is-free-requires Inv-loop μ-loop
+is-free-requires c κs = (search needs, mod-lt _ (omega arith))
+
+returns : tie.Need-returns Inv-loop μ-loop
+returns c =
+    let a = c .before .before .before .before in
+    sym (owner-leaf (a .args .t1) (a .pre) (a .args .block)
+    (sym (c .before .is-free .ensures (taken (a .args .t1 .connections)) (good-tree (a .args .t1) (a .pre))) ∙ c .if1 .taken))
 
 loop-holds : tie.Need-loop-holds Inv-loop μ-loop
 loop-holds c = (search needs, λ j l. absurd (omega arith))
@@ -29,16 +39,18 @@ element-copy-out-owns : tie.Need-element-copy-out-owns Inv-loop μ-loop
 element-copy-out-owns c = search needs
 
 owns-requires : tie.Need-owns-requires Inv-loop μ-loop
-owns-requires c κs = good-sound (c .before .before .before .args .t1) (c .before .before .before .pre) .numbers (c .before .before .loop .h)
+owns-requires c κs =
+    let a = c .before .before .before .before .before .before .before in
+    good-sound (a .args .t1) (a .pre) .numbers (c .before .before .loop .h)
 
-cast-t11 : tie.Need-cast-t11 Inv-loop μ-loop
-cast-t11 c = search needs
+cast-t14 : tie.Need-cast-t14 Inv-loop μ-loop
+cast-t14 c = search needs
 
-returns : tie.Need-returns Inv-loop μ-loop
-returns c =
+returns-2 : tie.Need-returns-2 Inv-loop μ-loop
+returns-2 c =
     let l = c .before .before .before .before .loop in
-    let a = c .before .before .before .before .before .args in
-    sym (owner-found (a .t1) (a .block) (l .h) (omega arith) (sym (c .before .owns .ensures) ∙ c .if1 .taken) (l .inv .1))
+    let a = c .before .before .before .before .before .before .before .before .before .args in
+    sym (owner-found (a .t1) (a .block) (l .h) (omega arith) (sym (c .before .owns .ensures) ∙ c .if2 .taken) (l .inv .1))
 
 add-h : tie.Need-add-h Inv-loop μ-loop
 add-h c = search needs
@@ -49,21 +61,21 @@ loop-less c = search needs
 loop-again : tie.Need-loop-again Inv-loop μ-loop
 loop-again c =
     let l = c .before .before .before .before .loop in
-    let a = c .before .before .before .before .before .args in (
+    let a = c .before .before .before .before .before .before .before .before .before .args in (
       omega arith,
       λ j m.
           by-cases (ℕ-discrete j (l .h))
-          (λ q. ap (λ (x : ℕ). owns (connection (a .t1) x) (a .block)) q ∙ sym (c .before .owns .ensures) ∙ c .if1 .left)
+          (λ q. ap (λ (x : ℕ). owns (connection (a .t1) x) (a .block)) q ∙ sym (c .before .owns .ensures) ∙ c .if2 .left)
           (λ q. l .inv .1 j (omega arith)),
     )
 
-returns-2 : tie.Need-returns-2 Inv-loop μ-loop
-returns-2 c =
+returns-3 : tie.Need-returns-3 Inv-loop μ-loop
+returns-3 c =
     let l = c .before .loop in
-    let a = c .before .before .args in
+    let a = c .before .before .before .before .before .before .args in
     sym (owner-none (a .t1) (a .block) (λ j m. l .inv .1 j (omega arith)))
 
 pub owner-spec : {M : Type 1} → statement M
 owner-spec =
     tie.close
-    (tie.spec Inv-loop μ-loop loop-holds mul-owns element-copy-out-owns owns-requires cast-t11 returns add-h loop-less loop-again returns-2)
+    (tie.spec Inv-loop μ-loop is-free-requires returns loop-holds mul-owns element-copy-out-owns owns-requires cast-t14 returns-2 add-h loop-less loop-again returns-3)
