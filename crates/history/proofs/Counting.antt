@@ -14,23 +14,23 @@ use Rattle.rules.specs.Time.{minusMod}
 use Rattle.rules.specs.Ownership.{factor, belongs, owns}
 use Rattle.rules.proofs.EndlessTime.{minusMod-lt, minusMod-back, minusMod-only, minusMod-mod}
 use Rattle.rules.proofs.SoundLaws.{Numbers}
-use Rattle.history.specs.Demands.{ownedFrom}
+use Rattle.history.specs.Demands.{countFrom}
 
 -- One block, counted.
 abbrev one : Connection → ℕ → ℕ
 one c b = cond (owns c b) 1 0
 
 -- Of suc n blocks, the first is counted apart, or the last.
-count-first : (c : Connection) (b n : ℕ) → ownedFrom c b (suc n) ≡ one c b + ownedFrom c (suc b) n
-unfolding ownedFrom
+count-first : (c : Connection) (b n : ℕ) → countFrom (owns c) b (suc n) ≡ one c b + countFrom (owns c) (suc b) n
+unfolding countFrom
 count-first c b n = go (owns c b)
   where
-    go : (v : Bool) → cond v (suc (ownedFrom c (suc b) n)) (ownedFrom c (suc b) n) ≡ cond v 1 0 + ownedFrom c (suc b) n
+    go : (v : Bool) → cond v (suc (countFrom (owns c) (suc b) n)) (countFrom (owns c) (suc b) n) ≡ cond v 1 0 + countFrom (owns c) (suc b) n
     go true = omega arith
     go false = omega arith
 
-count-last : (c : Connection) (n b : ℕ) → ownedFrom c b (suc n) ≡ ownedFrom c b n + one c (b + n)
-unfolding ownedFrom
+count-last : (c : Connection) (n b : ℕ) → countFrom (owns c) b (suc n) ≡ countFrom (owns c) b n + one c (b + n)
+unfolding countFrom
 count-last c zero b =
     let s : b + 0 ≡ b = omega arith in
     rw s (omega (arith, count-first c b 0))
@@ -61,7 +61,7 @@ module _ (c : Connection) (live : c .live ≡ true) where
       rw (owns-offset (b + F), owns-offset b, ← same (b + F), ← same b, add-mod-right b F)
 
   -- Where one block leaves in front, one that is counted the same comes behind: F blocks hold as many from everywhere.
-  count-anywhere : (b : ℕ) → ownedFrom c b (factor c) ≡ ownedFrom c 0 (factor c)
+  count-anywhere : (b : ℕ) → countFrom (owns c) b (factor c) ≡ countFrom (owns c) 0 (factor c)
   count-anywhere zero = refl
   count-anywhere (suc b) =
       let s : one c (b + factor c) ≡ one c b = ap (λ (v : Bool). cond {A = ℕ} v 1 0) (owns-periodic b) in
@@ -82,15 +82,15 @@ module _ (c : Connection) (live : c .live ≡ true) where
       owned _ (omega (arith, minusMod-only (b + (F - o)) A F p 0 p e))
 
   -- From the anchor on, the first L blocks are the connection's, and the others up to F are not.
-  count-run : c .length ≤ factor c → (n : ℕ) → n ≤ c .length → ownedFrom c (c .anchor) n ≡ n
-  unfolding ownedFrom
+  count-run : c .length ≤ factor c → (n : ℕ) → n ≤ c .length → countFrom (owns c) (c .anchor) n ≡ n
+  unfolding countFrom
   count-run l zero h = refl
   count-run l (suc n) h =
       let o : owns c (c .anchor + n) ≡ true = owned _ (omega (arith, offset-from n (omega arith))) in
       let s : one c (c .anchor + n) ≡ 1 = rw o in
       omega (arith, count-last c n (c .anchor), count-run l n (omega arith))
 
-  count-rest : (m : ℕ) → c .length + m ≤ factor c → ownedFrom c (c .anchor) (c .length + m) ≡ c .length
+  count-rest : (m : ℕ) → c .length + m ≤ factor c → countFrom (owns c) (c .anchor) (c .length + m) ≡ c .length
   count-rest zero h =
       let s : c .length + 0 ≡ c .length = omega arith in
       rw s (count-run (omega arith) (c .length) (omega arith))
@@ -102,10 +102,10 @@ module _ (c : Connection) (live : c .live ≡ true) where
       rw t (omega (arith, count-last c n (c .anchor), count-rest m (omega arith)))
 
 -- Every F successive blocks hold exactly L.
-pub counted-run : (c : Connection) → c .live ≡ true → Numbers c → (b : ℕ) → ownedFrom c b (factor c) ≡ c .length
+pub counted-run : (c : Connection) → c .live ≡ true → Numbers c → (b : ℕ) → countFrom (owns c) b (factor c) ≡ c .length
 counted-run c live n b =
     let s : c .length + (factor c - c .length) ≡ factor c = omega arith in
-    let r : ownedFrom c (c .anchor) (factor c) ≡ c .length = rw s at (count-rest c live (factor c - c .length) (omega arith)) in
+    let r : countFrom (owns c) (c .anchor) (factor c) ≡ c .length = rw s at (count-rest c live (factor c - c .length) (omega arith)) in
     count-anywhere c live b ∙ sym (count-anywhere c live (c .anchor)) ∙ r
 
 -- The next block is at most F - L away.

@@ -1,64 +1,62 @@
--- Demand 3 over two moments of a history.
+-- Demand 3 over two moments of a run.
 use mathlib.Core.Path.{_≡_, refl, sym, ap, _∙_, subst}
 use mathlib.Core.Bool.{true, false≢true}
-use mathlib.Core.List.{List, [], _∷_, _++_}
+use mathlib.Core.List.{List, [], _∷_}
 use Prim.Native.Nat.{ℕ}
 use native.Mathlib.Omega.{arith}
+use Rattle.rules.specs.declared.Schedule.{Schedule}
 use Rattle.rules.specs.declared.Connection.{Connection}
 use Rattle.rules.specs.Ownership.{handles, at}
 use Rattle.rules.specs.Good.{scheduleOf}
-use Rattle.rules.specs.Answers.{ok}
 use Rattle.rules.specs.Handles.{connection, isLive}
 use Rattle.rules.specs.Report.{metered}
 use Rattle.rules.specs.Load.{load}
-use Rattle.rules.specs.Program.{obey}
 use Rattle.rules.proofs.AdmitLaws.{admit-stored}
 use Rattle.rules.proofs.SoundLaws.{scheduled-good}
 use Rattle.rules.proofs.ScheduleLaws.{good-sound}
 use Rattle.rules.proofs.ImageLaws.{at-free}
 use Rattle.rules.proofs.RoundTrip.{round-connection}
-use Rattle.history.specs.declared.Call.{Call}
-use Rattle.history.specs.History.{Request, Result, History, ruledCall, ruled, after, made}
+use Rattle.history.specs.Calls.{Admit, Load, Result, ruledCall, ruled}
+use Rattle.history.specs.Runs.{Start, Fresh, startOf, Made, Run, begun as run-begun, more, now, followed, By}
 use Rattle.history.specs.Moments.{Begins, admitted, restored, Ends, drops, replaced as ends-replaced, Lasts, Unreported, Alive}
 use Rattle.history.specs.Demands.{Bounded, Steady, Lives}
-use Rattle.history.proofs.Goodness.{after-good}
+use Rattle.history.proofs.Following.{now-good, result-is, earlier-by}
 use Rattle.history.proofs.Effects.{Quiet, Effect, kept, moved, begun, ended, replaced, effect}
 
 -- ---- what lasts
 -- A connection as it was, but for its length and estimate; and these too where it was not reported.
-record Lasting (x : ℕ) (earlier : History) (between : List Request) : Type 0 where
+record Lasting (x : ℕ) (earlier : Run) (between : List Made) : Type 0 where
   length : ℕ
   estimate : ℕ
-  but : connection (after ruled (between ++ earlier)) x ≡ metered (connection (after ruled earlier) x) length estimate
-  unreported : Unreported x earlier between → connection (after ruled (between ++ earlier)) x ≡ connection (after ruled earlier) x
+  but : connection (now (followed earlier between)) x ≡ metered (connection (now earlier) x) length estimate
+  unreported : Unreported x between → connection (now (followed earlier between)) x ≡ connection (now earlier) x
 
-module _ (x : ℕ) (earlier : History) (live : isLive (after ruled earlier) x ≡ true) where
+module _ (x : ℕ) (earlier : Run) (live : isLive (now earlier) x ≡ true) where
   -- One more call that does not end it.
-  longer : (r : Request) (between : List Request) → (Ends ruled (between ++ earlier) r x → ⊥) → Lasting x earlier between
-      → Effect (after ruled (between ++ earlier)) r x (made ruled (between ++ earlier) r) → Lasting x earlier (r ∷ between)
-  unfolding after
-  longer r between never w (kept quiet e) =
+  longer : (m : Made) (between : List Made) → (Ends m x → ⊥) → Lasting x earlier between
+      → Effect (now (followed earlier between)) m x → Lasting x earlier (m ∷ between)
+  longer m between never w (kept quiet e) =
       record { length = w .length; estimate = w .estimate; but = e ∙ w .but; unreported = λ u. e ∙ w .unreported (u .1) }
-  longer r between never w (moved quiet sample l m p e) =
-      record { length = l; estimate = m; but = e ∙ ap (λ (c : Connection). metered c l m) (w .but); unreported = λ u. absurd (u .0 (sample, p)) }
-  longer r between never w (begun i f c F A L k p a unused e) =
+  longer m between never w (moved quiet report l n e) =
+      record { length = l; estimate = n; but = e ∙ ap (λ (c : Connection). metered c l n) (w .but); unreported = λ u. absurd (u .0 report) }
+  longer m between never w (begun i f c k A p a unused e) =
       absurd (false≢true (sym unused ∙ ap (λ (c : Connection). c .live) (w .but) ∙ live))
-  longer r between never w (ended p a e) = absurd (never (drops p a))
-  longer r between never w (replaced n p a long isSound image) = absurd (never (ends-replaced (n, p, a)))
+  longer m between never w (ended p a e) = absurd (never (drops p a))
+  longer m between never w (replaced bytes r long isSound image) = absurd (never (ends-replaced bytes r))
 
   -- So every live connection is, as long as nothing ends it.
-  lasting : (between : List Request) → Lasts ruled x earlier between → Lasting x earlier between
-  lasting [] lasts =
-      let c = connection (after ruled earlier) x in
+  lasting : (between : List Made) → By ruled (followed earlier between) → Lasts x between → Lasting x earlier between
+  lasting [] by lasts =
+      let c = connection (now earlier) x in
       record { length = c .length; estimate = c .estimate; but = refl; unreported = λ u. refl }
-  lasting (r ∷ between) lasts =
-      let h = between ++ earlier in
-      longer r between (lasts .0) (lasting between (lasts .1)) (effect (after ruled h) (after-good h) r x)
+  lasting (m ∷ between) by lasts =
+      let run = followed earlier between in
+      longer m between (lasts .0) (lasting between (by .0) (lasts .1)) (effect (now run) (now-good run (by .0)) m (by .1) x)
 
 -- "only its own report changes its length or estimate, and no call its factor or anchor"
-pub steady : Steady ruled
-steady earlier between x live lasts =
-    let w = lasting x earlier live between lasts in (
+pub steady : Steady (By ruled)
+steady earlier between x by live lasts =
+    let w = lasting x earlier live between by lasts in (
       ap (λ (c : Connection). c .k) (w .but),
       ap (λ (c : Connection). c .anchor) (w .but),
       λ u. (ap (λ (c : Connection). c .length) (w .unreported u), ap (λ (c : Connection). c .estimate) (w .unreported u)),
@@ -72,82 +70,84 @@ record Stands (c : Connection) (floor ceiling : ℕ) : Type 0 where
   ceiled : c .ceiling ≡ ceiling
 
 -- So it is right after it began,
-module _ (h : History) (r : Request) (x floor ceiling : ℕ) where
-  -- What each call would leave in place of the request's.
-  abbrev instead : Call → Result
-  instead call = ruledCall (after ruled h) call (r .image .list) (r .buffer)
-
-  begins-stands : Begins ruled h r x floor ceiling → Stands (connection (made ruled h r .schedule) x) floor ceiling
-  unfolding obey
-  begins-stands (admitted i F A L p a) =
-      subst (λ (call : Call). instead call .answer ≡ ok F A L → Stands (connection (instead call .schedule) x) floor ceiling) (sym p)
-      (λ e. rw (admit-stored (after ruled h) (after-good h) x i floor ceiling F A L e .3) (record { live = refl; floored = refl; ceiled = refl }))
-      a
-  begins-stands (restored (n, p, a) cs long isSound image live f c) =
-      let e : connection (made ruled h r .schedule) x ≡ at cs x =
-      ap (λ (call : Call). connection (instead call .schedule) x) p
-      ∙ ap (λ (bytes : List ℕ). connection (load (after ruled h) bytes .schedule) x) image
-      ∙ round-connection (after ruled h) (scheduleOf cs) (scheduled-good cs long isSound) x live in
-      rw e (record { live = live; floored = f; ceiled = c })
+begins-stands : (run : Run) (m : Made) → By ruled (more run m) → (x floor ceiling : ℕ) → Begins m x floor ceiling
+    → Stands (connection (m .result .schedule) x) floor ceiling
+unfolding ruledCall
+begins-stands run m by x floor ceiling (admitted i p (F, A, L, a)) =
+    let e = result-is run m by (Admit x i floor ceiling) p in
+    let stored = admit-stored (now run) (now-good run (by .0)) x i floor ceiling F A L (sym (ap (λ (t : Result). t .answer) e) ∙ a) .3 in
+    let c = ap (λ (t : Result). connection (t .schedule) x) e ∙ stored in
+    rw c (record { live = refl; floored = refl; ceiled = refl })
+begins-stands run m by x floor ceiling (restored bytes (p, (n, a)) cs long isSound image live f c) =
+    let e : connection (m .result .schedule) x ≡ at cs x =
+    ap (λ (t : Result). connection (t .schedule) x) (result-is run m by (Load bytes) p)
+    ∙ ap (λ (list : List ℕ). connection (load (now run) list .schedule) x) image
+    ∙ round-connection (now run) (scheduleOf cs) (scheduled-good cs long isSound) x live in
+    rw e (record { live = live; floored = f; ceiled = c })
 
 -- and as long as nothing ends it.
-alive-stands : (h : History) (x floor ceiling : ℕ) → Alive ruled x floor ceiling h → Stands (connection (after ruled h) x) floor ceiling
-unfolding after
-alive-stands h x floor ceiling a =
-    let b = begins-stands (a .earlier) (a .request) x floor ceiling (a .begins) in
-    let w = lasting x (a .request ∷ a .earlier) (b .live) (a .between) (a .lasts) in
+alive-stands : (run : Run) → By ruled run → (x floor ceiling : ℕ) → Alive x floor ceiling run → Stands (connection (now run) x) floor ceiling
+alive-stands run by x floor ceiling a =
+    let first = more (a .earlier) (a .first) in
+    let whole : By ruled (followed first (a .between)) = subst (By ruled) (a .whole) by in
+    let b = begins-stands (a .earlier) (a .first) (earlier-by ruled first (a .between) whole) x floor ceiling (a .begins) in
+    let w = lasting x first (b .live) (a .between) whole (a .lasts) in
     rw (a .whole, w .but) (record { live = b .live; floored = b .floored; ceiled = b .ceiled })
 
 -- "L stays between the floor and ceiling it was admitted or restored with."
-pub bounded : Bounded ruled
-bounded h x floor ceiling a =
-    let w = alive-stands h x floor ceiling a in
-    let n = good-sound (after ruled h) (after-good h) .numbers x (w .live) in
+pub bounded : Bounded (By ruled)
+bounded run x floor ceiling by a =
+    let w = alive-stands run by x floor ceiling a in
+    let n = good-sound (now run) (now-good run by) .numbers x (w .live) in
     (omega arith, omega arith)
 
 -- ---- who is live
 -- A call begins x, and none ends it since.
-abbrev Living : ℕ → History → Type 0
-Living x h = (floor : ℕ) × (ceiling : ℕ) × Alive ruled x floor ceiling h
+abbrev Living : ℕ → Run → Type 0
+Living x run = (floor : ℕ) × (ceiling : ℕ) × Alive x floor ceiling run
 
 -- The call begins it,
-now : (h : History) (r : Request) (x floor ceiling : ℕ) → Begins ruled h r x floor ceiling → Living x (r ∷ h)
-now h r x floor ceiling b = (floor, ceiling, record { earlier = h; request = r; between = []; whole = refl; begins = b; lasts = tt })
+begins-living : (run : Run) (m : Made) (x floor ceiling : ℕ) → Begins m x floor ceiling → Living x (more run m)
+begins-living run m x floor ceiling b = (floor, ceiling, record { earlier = run; first = m; between = []; whole = refl; begins = b; lasts = tt })
 
 -- or it goes on.
-still : (h : History) (r : Request) (x : ℕ) → Quiet r x (made ruled h r) → Living x h → Living x (r ∷ h)
-still h r x quiet (floor, ceiling, a) = (
+still : (run : Run) (m : Made) (x : ℕ) → Quiet m x → Living x run → Living x (more run m)
+still run m x quiet (floor, ceiling, a) = (
   floor,
   ceiling,
   record {
     earlier = a .earlier;
-    request = a .request;
-    between = r ∷ a .between;
-    whole = ap {B = History} (λ l. r ∷ l) (a .whole);
+    first = a .first;
+    between = m ∷ a .between;
+    whole = ap (λ (r : Run). more r m) (a .whole);
     begins = a .begins;
-    lasts = (λ e. never (subst (λ (l : History). Ends ruled l r x) (sym (a .whole)) e), a .lasts);
+    lasts = (never, a .lasts);
   },
 )
   where
-    never : Ends ruled h r x → ⊥
+    never : Ends m x → ⊥
     never (drops p e) = quiet .drops p e
-    never (ends-replaced (n, p, e)) = quiet .restores n p e
+    never (ends-replaced bytes w) = quiet .restores bytes w
 
 -- One of the two holds of whoever is live after a call.
-next : (h : History) (r : Request) (x : ℕ) → Effect (after ruled h) r x (made ruled h r) → connection (made ruled h r .schedule) x .live ≡ true
-    → (isLive (after ruled h) x ≡ true → Living x h) → Living x (r ∷ h)
-next h r x (kept quiet e) live before = still h r x quiet (before (rw e at live))
-next h r x (moved quiet sample l m p e) live before = still h r x quiet (before (rw e at live))
-next h r x (begun i f c F A L k p a unused e) live before = now h r x f c (admitted i F A L p a)
-next h r x (ended p a e) live before = absurd (false≢true (rw e at live))
-next h r x (replaced n p a long isSound image) live before =
-    now h r x _ _ (restored (n, p, a) (made ruled h r .schedule .connections) long isSound image live refl refl)
+goes-on : (run : Run) (m : Made) (x : ℕ) → Effect (now run) m x → connection (m .result .schedule) x .live ≡ true
+    → (isLive (now run) x ≡ true → Living x run) → Living x (more run m)
+goes-on run m x (kept quiet e) live before = still run m x quiet (before (rw e at live))
+goes-on run m x (moved quiet report l n e) live before = still run m x quiet (before (rw e at live))
+goes-on run m x (begun i f c k A p a unused e) live before = begins-living run m x f c (admitted i p a)
+goes-on run m x (ended p a e) live before = absurd (false≢true (rw e at live))
+goes-on run m x (replaced bytes w long isSound image) live before =
+    begins-living run m x _ _ (restored bytes w (m .result .schedule .connections) long isSound image live refl refl)
 
-living : (h : History) (x : ℕ) → isLive (after ruled h) x ≡ true → Living x h
-unfolding after
-living [] x live = absurd (false≢true (rw (at-free handles x) at live))
-living (r ∷ h) x live = next h r x (effect (after ruled h) (after-good h) r x) live (living h x)
+-- Nobody is live at a start.
+start-free : (start : Start) (x : ℕ) → isLive (startOf start) x ≡ true → ⊥
+unfolding startOf
+start-free Fresh x live = false≢true (rw (at-free handles x) at live)
+
+living : (run : Run) → By ruled run → (x : ℕ) → isLive (now run) x ≡ true → Living x run
+living (run-begun start s) by x live = absurd (start-free start x (subst (λ (t : Schedule). isLive t x ≡ true) by live))
+living (more run m) by x live = goes-on run m x (effect (now run) (now-good run (by .0)) m (by .1) x) live (living run (by .0) x)
 
 -- "It is live from its accepted admission, or the accepted restore .., until its own drop or the next accepted restore".
-pub lives : Lives ruled
-lives h x = (living h x, λ w. alive-stands h x (w .0) (w .1) (w .2) .live)
+pub lives : Lives (By ruled)
+lives run x by = (living run by x, λ w. alive-stands run by x (w .0) (w .1) (w .2) .live)

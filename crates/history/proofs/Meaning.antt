@@ -5,33 +5,29 @@ use Prim.Native.Nat.{ℕ, _*_, _^_, _≤_}
 use native.Mathlib.Nat.{pow-le-pow-right}
 use native.Mathlib.Omega.{arith}
 use lib.Dec.{lit≤}
+use borrow.Author.Tests.{ltb-false, not-false}
 use Rattle.rules.specs.declared.Schedule.{Schedule}
-use Rattle.rules.specs.declared.Command.the-variants.{Admit}
 use Rattle.rules.specs.Time.{blockMicros}
 use Rattle.rules.specs.Core.{isInterval, intervalMicros}
 use Rattle.rules.specs.Ownership.{belongs, owns}
+use Rattle.rules.specs.Good.{Good, treeFor}
 use Rattle.rules.specs.Handles.{connection}
-use Rattle.rules.specs.Answers.{ok}
+use Rattle.rules.specs.Answers.{Answer, ok}
 use Rattle.rules.specs.Admit.{kOf, admitDone, admit}
 use Rattle.rules.specs.Image.{image}
-use Rattle.rules.specs.Program.{obey}
 use Rattle.rules.specs.Save.{Written}
 use Rattle.rules.proofs.EndlessTime.{belongs-used}
-use Rattle.rules.proofs.SoundLaws.{Numbers, all-sound-at, sound-all}
+use Rattle.rules.proofs.SoundLaws.{Numbers}
+use Rattle.rules.proofs.ScheduleLaws.{good-sound}
 use Rattle.rules.proofs.AdmitLaws.{admit-cases, k-largest}
 use Rattle.rules.proofs.RoomLaws.{no-room-exactly}
+use Rattle.history.proofs.RoomTemp.{room-exactly}
 use Rattle.rules.proofs.SaveLaws.{save-whole}
 use Rattle.rules.proofs.ImageLaws.{load-exactly, load-saves}
-use Rattle.history.specs.declared.Call.{Call}
-use Rattle.history.specs.declared.Call.the-variants.{Command, Save, Load}
-use Rattle.history.specs.History.{Request, Result, ruledCall, ruled, after}
-use Rattle.history.specs.Demands.{IntervalsMeant, EventsMeant, RoomExact, RestoreExact, SavesSame, Demand2}
-use Rattle.history.proofs.Goodness.{after-good}
-
--- A request by the call that it is.
-module _ (s : Schedule) (r : Request) (c : Call) (e : r .call ≡ c) where
-  is : ruled s r ≡ ruledCall s c (r .image .list) (r .buffer)
-  is = ap (λ (x : Call). ruledCall s x (r .image .list) (r .buffer)) e
+use Rattle.history.specs.Calls.{Admit, Save, Load, Lent, Result, ruledCall, ruled}
+use Rattle.history.specs.Runs.{Run, now, By}
+use Rattle.history.specs.Demands.{IntervalsMeant, EventsMeant, ResultsGiven, ConnectionsGiven, TreeGiven, Reaches, RoomAsked, RoomExact, RestoreExact, SavesSame, Demand2}
+use Rattle.history.proofs.Following.{now-after, result-after, result-is, now-good}
 
 -- ---- intervals
 interval-meant : (s : Schedule) (x i f c F A L : ℕ) → admit s x i f c .answer ≡ ok F A L
@@ -46,52 +42,93 @@ interval-meant s x i f c F A L =
     let l = k-largest i (a .interval) in
     (a .interval, omega (arith, p, l .0), λ k h. subst (λ (y : ℕ). 2 ^ k ≤ y) p (pow-le-pow-right (lit≤ tt) (l .1 k (omega arith)))))
 
-intervals : IntervalsMeant ruled
-unfolding obey
-intervals h r x i f c F A L e a =
-    interval-meant (after ruled h) x i f c F A L (ap (λ (o : Result). o .answer) (sym (is (after ruled h) r (Command (Admit x i f c)) e)) ∙ a)
+intervals : IntervalsMeant (By ruled)
+unfolding ruledCall
+intervals run m x i f c F A L by p a =
+    interval-meant (now run) x i f c F A L (sym (ap (λ (t : Result). t .answer) (result-is run m by (Admit x i f c) p)) ∙ a)
 
 -- ---- events
-events : EventsMeant ruled
+events : EventsMeant (By ruled)
 unfolding owns
-events h x b live =
-    let c = connection (after ruled h) x in
-    let n : Numbers c = all-sound-at (after ruled h .connections) (sound-all (after ruled h .connections) (after-good h .isSound)) x live in
+events run x b by live =
+    let c = connection (now run) x in
+    let n : Numbers c = good-sound (now run) (now-good run by) .numbers x live in
     let u = belongs-used c b (omega (arith, n .positive, n .floored)) in
     let o : owns c b ≡ belongs c b = ap (λ (v : Bool). v && belongs c b) live in
     (λ t. u .0 (sym o ∙ t), λ t. o ∙ u .1 t)
 
+-- ---- what is given
+results : ResultsGiven (By ruled)
+results run m by =
+    let e = result-after run m by in
+    (ap (λ (t : Result). t .answer) e, ap (λ (t : Result). t .lent) e)
+
+connections : ConnectionsGiven (By ruled)
+connections run x by =
+    let e = ap (λ (s : Schedule). connection s x) (now-after run by) in
+    record { live = ap (λ (s : Schedule). connection s x .live) (now-after run by); numbers = λ live. e }
+
+tree : TreeGiven (By ruled)
+tree run by = now-good run by .hasTree
+
 -- ---- room
-room : RoomExact ruled
-unfolding obey
-room h r x i f c e hx unused interval share =
-    let s = after ruled h in
-    let q = ap (λ (o : Result). o .answer) (is s r (Command (Admit x i f c)) e) in
-    let n = no-room-exactly s (after-good h) x i f c in (
-      λ a A l free. n .0 (sym q ∙ a) .shut A l (λ j lj b y m. free j lj b m y),
-      λ shut. q ∙ n .1 (record { handle = hx; unused = unused; interval = interval; share = share; shut = λ A l free. shut A l (λ j lj b m y. free j lj b y m) }),
-    )
+-- Of an admission that reaches the room check.
+room-asked : (s : Schedule) → Good s → (x i f c : ℕ) → Reaches s x i f c → RoomAsked s (admit s x i f c .answer) (2 ^ kOf i) f
+room-asked s good x i f c reach =
+    let handle = ltb-false 63 x (reach .check1) in
+    let interval = not-false (isInterval i) (reach .check4) in
+    let none = no-room-exactly s good x i f c in
+    let some = room-exactly s good x i f c handle (reach .check2) interval (reach .check5) in
+    record {
+      shut = (
+        λ a A l free. none .0 a .shut A l (λ j lj b y m. free j lj b m y),
+        λ shut.
+            none .1
+            (record { handle = handle; unused = reach .check2; interval = interval; share = reach .check5; shut = λ A l free. shut A l (λ j lj b m y. free j lj b y m) }),
+      );
+      opens = (
+        λ placed. let w = some .0 placed in (w .0, w .1, λ j lj b m y. w .2 j lj b y m),
+        λ w. some .1 (w .0, w .1, λ j lj b y m. w .2 j lj b m y),
+      );
+    }
+
+room : RoomExact (By ruled)
+unfolding ruledCall
+room run m x i f c by p reach =
+    let e = ap (λ (t : Result). t .answer) (result-is run m by (Admit x i f c) p) in
+    subst (λ (a : Answer). RoomAsked (now run) a (2 ^ kOf i) f) (sym e) (room-asked (now run) (now-good run (by .0)) x i f c reach)
 
 -- ---- images
-restore : RestoreExact ruled
-restore h r e =
-    let s = after ruled h in
-    let q = ap (λ (o : Result). o .answer) (is s r Load e) in
-    let l = load-exactly s (r .image .list) (r .image .small) in
+restore : RestoreExact (By ruled)
+unfolding ruledCall
+restore run m bytes by p =
+    let q = ap (λ (t : Result). t .answer) (result-is run m by (Load bytes) p) in
+    let l = load-exactly (now run) (bytes .list) (bytes .small) in
     (λ w. l .0 (w .0, sym q ∙ w .1), λ w. let a = l .1 w in (a .0, q ∙ a .1))
 
-same : SavesSame ruled
-unfolding after
-same h r v n e a ev long =
-    let s = after ruled h in
-    let bytes = r .image .list in
-    let q = is s r Load e in
-    let image-is : image (ruled s r .schedule .connections) ≡ bytes =
-    ap (λ (o : Result). image (o .schedule .connections)) q ∙ load-saves s bytes n (r .image .small) (sym (ap (λ (o : Result). o .answer) q) ∙ a) in
-    let w = save-whole (ruled s r .schedule) (v .buffer) bytes image-is long in
-    let p = is (ruled s r .schedule) v Save ev in
-    (ap (λ (o : Result). o .answer) p ∙ ap (λ (o : Written). o .answer) w, ap (λ (o : Result). o .buffer) p ∙ ap (λ (o : Written). o .buffer) w)
+same : SavesSame (By ruled)
+unfolding ruledCall
+same run m save bytes n by p a ps long =
+    let s = now run in
+    let q = result-is run m (by .0) (Load bytes) p in
+    let image-is : image (m .result .schedule .connections) ≡ bytes .list =
+    ap (λ (t : Result). image (t .schedule .connections)) q
+    ∙ load-saves s (bytes .list) n (bytes .small) (sym (ap (λ (t : Result). t .answer) q) ∙ a) in
+    let w = save-whole (m .result .schedule) (save .request .lent .buffer) (bytes .list) image-is long in
+    let e = by .1 ∙ ap (λ c. ruledCall (m .result .schedule) c (save .request .lent)) ps in (
+      ap (λ (t : Result). t .answer) e ∙ ap (λ (v : Written). v .answer) w,
+      ap (λ (t : Result). t .lent .buffer) e ∙ ap (λ (v : Written). v .buffer) w,
+    )
 
-pub meanings : Demand2 ruled
+pub meanings : Demand2 (By ruled)
 meanings =
-    record { intervals = intervals; events = events; answers = λ h r. refl; runs = λ h r x. refl; room = room; restore = restore; same = same }
+    record {
+      intervals = intervals;
+      events = events;
+      results = results;
+      connections = connections;
+      tree = tree;
+      room = room;
+      restore = restore;
+      same = same;
+    }

@@ -1,164 +1,258 @@
--- The versions that the rule sheet shuts out, each by a computed history.
+-- The versions that are shut out, each by a computed history.
 use Prim.Native.Nat.{ℕ}
 use mathlib.Core.Path.{_≡_, refl, sym, ap, _∙_}
-use mathlib.Core.Bool.{false≢true}
+use mathlib.Core.Bool.{true, false≢true}
 use mathlib.Core.List.{List, [], _∷_}
 use native.Mathlib.Omega.{arith}
-use Rattle.rules.specs.declared.Command.{Command}
-use Rattle.rules.specs.declared.Command.the-variants.{Admit, Drop, Report, Owner}
+use lib.ListN.{getD, replicate}
+use Rattle.rules.specs.declared.Connection.{Connection}
 use Rattle.rules.specs.Core.{isInterval}
 use Rattle.rules.specs.Ownership.{handles, owns}
 use Rattle.rules.specs.Good.{fresh}
-use Rattle.rules.specs.Answers.{ok}
+use Rattle.rules.specs.Answers.{Answer, ok}
+use Rattle.rules.specs.Handles.{connection}
 use Rattle.rules.specs.Admit.{kOf}
 use Rattle.rules.specs.Image.{image}
-use Rattle.rules.specs.Program.{obey}
-use Rattle.rules.proofs.BytesLaws.{AllBytes}
 use Rattle.rules.proofs.ScheduleLaws.{nobody-owns}
 use Rattle.rules.proofs.ImageLaws.{image-bytes, at-free}
 use Rattle.rules.proofs.NotEmpty.{fresh-is-good}
-use Rattle.history.specs.declared.Call.the-variants.{Command as CallCommand, Load}
-use Rattle.history.specs.History.{Request, StepFunction, History, after}
+use Rattle.history.specs.Calls.{Bytes, Call, Admit, Drop, Report, Owner, Save, Load, Lent, Request, Result, ruledCall}
+use Rattle.history.specs.Runs.{Fresh, startOf, History, begin, next, after, Made, Run, begun, more, now, historyOf, StepFunction, By}
 use Rattle.history.specs.Moments.{Ends, admitted, drops, replaced}
-use Rattle.history.specs.Demands.{Run, AnswersGiven, RunsGiven, RoomExact, RestoreExact, Demand2, ownedFrom, Counted, Apart, Lives, Demand3}
-use Rattle.history.specs.Versions.{refusesAll, anchorsZero, doesNothing, inventsAnswers, makesUpLength, endsAnother}
+use Rattle.history.specs.Demands.{ResultsGiven, ConnectionsGiven, RoomExact, RestoreExact, Demand2, countFrom, Counted, Apart, Lives, Demand3}
+use Rattle.history.specs.Versions.{RefusesAll, anchorsZero, doesNothing, inventsAnswers, makesUpLength, endsAnother, startsAtZero, forgetsEstimate, neverGrows, losesBackups, refusesWithOne}
+
+-- ---- runs of a version
+-- What it leaves of a request,
+abbrev leaves : StepFunction → Run → Request → Made
+leaves step run r = record { request = r; result = step (now run) r }
+
+-- and its run for a history.
+unfoldable ran : StepFunction → History → Run
+unfolding startOf
+ran step (begin start) = begun start (startOf start)
+ran step (next h r) =
+    let run = ran step h in
+    more run (leaves step run r)
+
+ran-by : (step : StepFunction) (h : History) → By step (ran step h)
+unfolding ran
+ran-by step (begin start) = refl
+ran-by step (next h r) = (ran-by step h, refl)
 
 -- ---- the calls
--- A command, with no image bytes and no buffer beside it.
-abbrev asked : Command → Request
-asked c = record { call = CallCommand c; image = record { list = []; small = λ i. omega arith }; buffer = [] }
-
--- A restore of bytes.
-abbrev loading : (bytes : List ℕ) → AllBytes bytes → Request
-loading bytes small = record { call = Load; image = record { list = bytes; small = small }; buffer = [] }
+-- A call with nothing lent.
+abbrev plain : Call → Request
+plain c = record { call = c; lent = record { buffer = [] } }
 
 -- A handle's admission to one block in eight;
 abbrev single : ℕ → Request
-single x = asked (Admit x 48 1 1)
+single x = plain (Admit x 48 1 1)
 
 -- and one that may grow to four.
 abbrev growing : Request
-growing = asked (Admit 0 48 1 4)
+growing = plain (Admit 0 48 1 4)
+
+abbrev start : History
+start = begin Fresh
+
+-- ---- what a version's run gives
+module _ (step : StepFunction) (h : History) (r : Request) where
+  -- Its answer and what it wrote are those of the rule, where results are as given;
+  answer-given : ResultsGiven (By step) → leaves step (ran step h) r .result .answer ≡ ruledCall (after (historyOf (ran step h))) (r .call) (r .lent) .answer
+  unfolding ran
+  answer-given results = results (ran step h) (leaves step (ran step h) r) (ran-by step h, refl) .0
+
+  buffer-given : ResultsGiven (By step) → leaves step (ran step h) r .result .lent .buffer ≡ ruledCall (after (historyOf (ran step h))) (r .call) (r .lent) .lent .buffer
+  unfolding ran
+  buffer-given results = ap (λ (l : Lent). l .buffer) (results (ran step h) (leaves step (ran step h) r) (ran-by step h, refl) .1)
 
 -- ---- one that refuses all
--- A fresh schedule has room.
-pub refuses-all-room : RoomExact refusesAll → ⊥
-unfolding after fresh isInterval kOf
-refuses-all-room room =
-    room [] (single 0) 0 48 1 1 refl (omega arith) refl refl refl .0 refl 0 (omega arith)
-    (λ j h b e x. ap (λ c. owns c b) (at-free handles x) ∙ nobody-owns b)
-
--- The image of a fresh schedule is that of a sound one.
-pub refuses-all-restore : RestoreExact refusesAll → ⊥
-refuses-all-restore restore =
-    let cs = fresh .connections in
-    let w = restore [] (loading (image cs) (image-bytes cs)) refl .1 (cs, fresh-is-good .places, fresh-is-good .isSound, refl) in
-    let z : _≡_ {A = ℕ} 0 1 = cc (w .1) in
+-- A fresh schedule has room,
+pub refuses-all-room : (step : StepFunction) → RefusesAll step → RoomExact (By step) → ⊥
+unfolding startOf isInterval kOf
+refuses-all-room step refuses room =
+    let run = begun Fresh (startOf Fresh) in
+    let no = refuses (startOf Fresh) (single 0) in
+    let yes =
+    room run (leaves step run (single 0)) 0 48 1 1 (refl, refl) refl (record { check1 = refl; check2 = refl; check4 = refl; check5 = refl }) .opens .1
+    (0, omega arith, λ j h b e x. ap (λ c. owns c b) (at-free handles x) ∙ nobody-owns b) in
+    let e = no .1 in
+    let f = yes .3 in
+    let z : _≡_ {A = ℕ} 0 1 = cc in
     omega arith
 
-pub refuses-all : Demand2 refusesAll → ⊥
-refuses-all d = refuses-all-room (d .room)
+-- and its image is that of a sound one.
+pub refuses-all-restore : (step : StepFunction) → RefusesAll step → RestoreExact (By step) → ⊥
+refuses-all-restore step refuses restore =
+    let cs = fresh .connections in
+    let bytes : Bytes = record { list = image cs; small = image-bytes cs } in
+    let run = begun Fresh (startOf Fresh) in
+    let no = refuses (startOf Fresh) (plain (Load bytes)) in
+    let yes = restore run (leaves step run (plain (Load bytes))) bytes (refl, refl) refl .1 (cs, fresh-is-good .places, fresh-is-good .isSound, refl) in
+    let e = no .1 in
+    let f = yes .1 in
+    let z : _≡_ {A = ℕ} 0 1 = cc in
+    omega arith
+
+pub refuses-all : (step : StepFunction) → RefusesAll step → Demand2 (By step) → ⊥
+refuses-all step refuses d = refuses-all-room step refuses (d .room)
+
+-- Also where each refusal is 1.
+pub refuses-with-one : RoomExact (By refusesWithOne) → ⊥
+refuses-with-one = refuses-all-room refusesWithOne (λ s r. (1, refl))
 
 -- ---- one that gives every connection anchor 0
 -- The second of two admissions is given anchor 0, where 4 is due.
-pub anchors-zero-answers : AnswersGiven anchorsZero → ⊥
-unfolding after obey
-anchors-zero-answers answers =
-    let e : ok 8 0 1 ≡ ok 8 4 1 = answers (single 0 ∷ []) (single 1) in
+pub anchors-zero-answers : ResultsGiven (By anchorsZero) → ⊥
+unfolding ran after ruledCall
+anchors-zero-answers results =
+    let e : ok 8 0 1 ≡ ok 8 4 1 = answer-given anchorsZero (next start (single 0)) (single 1) results in
     let z : _≡_ {A = ℕ} 0 4 = cc in
     omega arith
 
 -- Block 0 belongs to both.
-pub anchors-zero-apart : Apart anchorsZero → ⊥
-unfolding after obey owns
-anchors-zero-apart apart = let z = apart (single 1 ∷ single 0 ∷ []) 0 1 0 refl refl in omega arith
+pub anchors-zero-apart : Apart (By anchorsZero) → ⊥
+unfolding ran ruledCall owns
+anchors-zero-apart apart =
+    let h = next (next start (single 0)) (single 1) in
+    let z = apart (ran anchorsZero h) 0 1 0 (ran-by anchorsZero h) refl refl in
+    omega arith
 
-pub anchors-zero : (Demand2 anchorsZero → ⊥) × (Demand3 anchorsZero → ⊥)
-anchors-zero = (λ d. anchors-zero-answers (d .answers), λ d. anchors-zero-apart (d .apart))
+pub anchors-zero : (Demand2 (By anchorsZero) → ⊥) × (Demand3 (By anchorsZero) → ⊥)
+anchors-zero = (λ d. anchors-zero-answers (d .results), λ d. anchors-zero-apart (d .apart))
+
+-- ---- what stands at a handle
+module _ (step : StepFunction) (h : History) (connections : ConnectionsGiven (By step)) where
+  -- Handle 0 is live in one exactly if in the other,
+  live-given : connection (now (ran step h)) 0 .live ≡ connection (after (historyOf (ran step h))) 0 .live
+  live-given = connections (ran step h) 0 (ran-by step h) .live
+
+  -- and has the same numbers.
+  numbers-given : connection (after (historyOf (ran step h))) 0 .live ≡ true → connection (now (ran step h)) 0 ≡ connection (after (historyOf (ran step h))) 0
+  numbers-given live = connections (ran step h) 0 (ran-by step h) .numbers live
 
 -- ---- one that does nothing on report or drop
 -- A dropped connection stays live.
-pub does-nothing-drop : RunsGiven doesNothing → ⊥
-unfolding after obey
-does-nothing-drop runs = false≢true (sym (ap (λ (r : Run). r .live) (runs (growing ∷ []) (asked (Drop 0)) 0)))
+pub does-nothing-drop : ConnectionsGiven (By doesNothing) → ⊥
+unfolding ran after ruledCall
+does-nothing-drop given = false≢true (sym (live-given doesNothing (next (next start growing) (plain (Drop 0))) given))
 
 -- A report of a full block leaves length 1, where 2 is due.
-pub does-nothing-report : RunsGiven doesNothing → ⊥
-unfolding after obey
-does-nothing-report runs =
-    let z : _≡_ {A = ℕ} 1 2 = ap (λ (r : Run). r .length) (runs (growing ∷ []) (asked (Report 0 7500)) 0) in
+pub does-nothing-report : ConnectionsGiven (By doesNothing) → ⊥
+unfolding ran after ruledCall
+does-nothing-report given =
+    let z : _≡_ {A = ℕ} 1 2 = ap (λ (c : Connection). c .length) (numbers-given doesNothing (next (next start growing) (plain (Report 0 7500))) given refl) in
     omega arith
 
-pub does-nothing : Demand2 doesNothing → ⊥
-does-nothing d = does-nothing-report (d .runs)
+pub does-nothing : Demand2 (By doesNothing) → ⊥
+does-nothing d = does-nothing-report (d .connections)
 
 -- ---- one that schedules the first admission and invents the later answers
 -- Anchor 1 is invented, where 4 is due.
-pub invents-answers-answers : AnswersGiven inventsAnswers → ⊥
-unfolding after obey
-invents-answers-answers answers =
-    let e : ok 8 1 1 ≡ ok 8 4 1 = answers (single 0 ∷ []) (single 1) in
+pub invents-answers-answers : ResultsGiven (By inventsAnswers) → ⊥
+unfolding ran after ruledCall
+invents-answers-answers results =
+    let e : ok 8 1 1 ≡ ok 8 4 1 = answer-given inventsAnswers (next start (single 0)) (single 1) results in
     let z : _≡_ {A = ℕ} 1 4 = cc in
     omega arith
 
 -- Handle 1 was accepted and is not live.
-pub invents-answers-lives : Lives inventsAnswers → ⊥
-unfolding after obey
+pub invents-answers-lives : Lives (By inventsAnswers) → ⊥
+unfolding ran ruledCall
 invents-answers-lives lives =
+    let h = next start (single 0) in
+    let run = ran inventsAnswers h in
     false≢true
-    (lives (single 1 ∷ single 0 ∷ []) 1 .1 (
+    (lives (ran inventsAnswers (next h (single 1))) 1 (ran-by inventsAnswers (next h (single 1))) .1 (
       1,
       1,
       record {
-        earlier = single 0 ∷ [];
-        request = single 1;
+        earlier = run;
+        first = leaves inventsAnswers run (single 1);
         between = [];
         whole = refl;
-        begins = admitted 48 8 1 1 refl refl;
+        begins = admitted 48 refl (8, 1, 1, refl);
         lasts = tt;
       },
     ))
 
-pub invents-answers : (Demand2 inventsAnswers → ⊥) × (Demand3 inventsAnswers → ⊥)
-invents-answers = (λ d. invents-answers-answers (d .answers), λ d. invents-answers-lives (d .lives))
+pub invents-answers : (Demand2 (By inventsAnswers) → ⊥) × (Demand3 (By inventsAnswers) → ⊥)
+invents-answers = (λ d. invents-answers-answers (d .results), λ d. invents-answers-lives (d .lives))
 
 -- ---- one whose length is a made-up number
 -- 8 blocks cannot hold a thousand.
-pub makes-up-length-counted : Counted makesUpLength → ⊥
-unfolding after obey owns ownedFrom
+pub makes-up-length-counted : Counted (By makesUpLength) → ⊥
+unfolding ran ruledCall owns countFrom
 makes-up-length-counted counted =
-    let z : _≡_ {A = ℕ} 8 1000 = counted (single 0 ∷ []) 0 refl 0 in
+    let h = next start (single 0) in
+    let z : _≡_ {A = ℕ} 8 1000 = counted (ran makesUpLength h) 0 (ran-by makesUpLength h) refl 0 in
     omega arith
 
-pub makes-up-length : Demand3 makesUpLength → ⊥
+pub makes-up-length : Demand3 (By makesUpLength) → ⊥
 makes-up-length d = makes-up-length-counted (d .counted)
 
 -- ---- one that ends a connection nobody dropped
 -- A question ends nothing.
-asking-ends-nothing : (step : StepFunction) (h : History) (b x : ℕ) → Ends step h (asked (Owner b)) x → ⊥
-asking-ends-nothing step h b x (drops e a) = let z : _≡_ {A = ℕ} 0 1 = cc in omega arith
-asking-ends-nothing step h b x (replaced w) =
-    let e = w .1 in
+asking-ends-nothing : (step : StepFunction) (run : Run) (b x : ℕ) → Ends (leaves step run (plain (Owner b))) x → ⊥
+asking-ends-nothing step run b x (drops e a) = let z : _≡_ {A = ℕ} 0 1 = cc in omega arith
+asking-ends-nothing step run b x (replaced bytes w) =
+    let e = w .0 in
     let z : _≡_ {A = ℕ} 0 1 = cc in
     omega arith
 
 -- Handle 0, admitted and never dropped, is gone after a question.
-pub ends-another-lives : Lives endsAnother → ⊥
-unfolding after obey
+pub ends-another-lives : Lives (By endsAnother) → ⊥
+unfolding ran ruledCall
 ends-another-lives lives =
+    let first = ran endsAnother start in
+    let run = ran endsAnother (next start (single 0)) in
+    let h = next (next start (single 0)) (plain (Owner 0)) in
     false≢true
-    (lives (asked (Owner 0) ∷ single 0 ∷ []) 0 .1 (
+    (lives (ran endsAnother h) 0 (ran-by endsAnother h) .1 (
       1,
       1,
       record {
-        earlier = [];
-        request = single 0;
-        between = asked (Owner 0) ∷ [];
+        earlier = first;
+        first = leaves endsAnother first (single 0);
+        between = leaves endsAnother run (plain (Owner 0)) ∷ [];
         whole = refl;
-        begins = admitted 48 8 0 1 refl refl;
-        lasts = (asking-ends-nothing endsAnother (single 0 ∷ []) 0 0, tt);
+        begins = admitted 48 refl (8, 0, 1, refl);
+        lasts = (asking-ends-nothing endsAnother run 0 0, tt);
       },
     ))
 
-pub ends-another : Demand3 endsAnother → ⊥
+pub ends-another : Demand3 (By endsAnother) → ⊥
 ends-another d = ends-another-lives (d .lives)
+
+-- ---- those that answer nearly as they should
+-- Estimate 0, where 5,000 is due.
+pub starts-at-zero : ConnectionsGiven (By startsAtZero) → ⊥
+unfolding ran after ruledCall
+starts-at-zero given =
+    let z : _≡_ {A = ℕ} 0 5000 = ap (λ (c : Connection). c .estimate) (numbers-given startsAtZero (next start growing) given refl) in
+    omega arith
+
+-- The old estimate, where a sample of 5,008 moves it on.
+pub forgets-estimate : ConnectionsGiven (By forgetsEstimate) → ⊥
+unfolding ran after ruledCall
+forgets-estimate given =
+    let z : _≡_ {A = ℕ} 5000 5001 = ap (λ (c : Connection). c .estimate) (numbers-given forgetsEstimate (next (next start growing) (plain (Report 0 5008))) given refl) in
+    omega arith
+
+-- Ceiling 1, where 4 was asked for.
+pub never-grows : ConnectionsGiven (By neverGrows) → ⊥
+unfolding ran after ruledCall
+never-grows given =
+    let z : _≡_ {A = ℕ} 1 4 = ap (λ (c : Connection). c .ceiling) (numbers-given neverGrows (next start growing) given refl) in
+    omega arith
+
+-- A save of a fresh schedule begins with 0, where 2, the length of the first record's payload, is due.
+abbrev backup : Request
+backup = record { call = Save; lent = record { buffer = replicate 138 165 } }
+
+pub loses-backups : ResultsGiven (By losesBackups) → ⊥
+unfolding ran after ruledCall
+loses-backups results =
+    let z : _≡_ {A = ℕ} 0 2 = ap (λ (b : List ℕ). getD b 0 0) (buffer-given losesBackups start backup results) in
+    omega arith

@@ -19,5 +19,4 @@ one-outcome =
       save = save-unique;
       load = load-unique;
       run = λ input. run-unique;
-      step = λ s call bytes buffer x y a b p q. p .is ∙ sym (q .is);
     }

@@ -1,154 +1,177 @@
--- The customer's three demands, of any step function.
+-- The customer's three demands, of any system: of every run that can come of it.
 use Prim.Native.Nat.{ℕ, zero, suc, _+_, _-_, _*_, _%_, _^_, _<_, _≤_}
 use mathlib.Core.Path.{_≡_}
 use mathlib.Core.Bool.{Bool, true, false, cond}
 use mathlib.Core.Logic.{_↔_}
-use mathlib.Core.List.{List, _∷_, _++_}
+use mathlib.Core.List.{List, _++_}
 use lib.IntN.{pos}
 use lib.ListN.{length, drop}
 use Rattle.rules.specs.declared.Schedule.{Schedule}
 use Rattle.rules.specs.declared.Connection.{Connection}
-use Rattle.rules.specs.declared.Command.the-variants.{Admit}
+use Rattle.rules.specs.declared.Refusal.{Refusal as Named}
+use Rattle.rules.specs.declared.Refusal.the-variants.{NoOpenAnchor}
 use Rattle.rules.specs.Time.{blockMicros}
 use Rattle.rules.specs.Core.{isInterval, intervalMicros, Used}
 use Rattle.rules.specs.Ownership.{handles, factor, subrating, owns}
 use Rattle.rules.specs.Sound.{sound}
-use Rattle.rules.specs.Handles.{connection, isLive}
-use Rattle.rules.specs.Admit.{kOf, shareWrong}
+use Rattle.rules.specs.Good.{treeFor}
+use Rattle.rules.specs.Refusals.{number}
+use Rattle.rules.specs.Handles.{connection, aboveHandles, isLive}
+use Rattle.rules.specs.Admit.{kOf, intervalOutside, shareWrong}
 use Rattle.rules.specs.Image.{IsImage}
-use Rattle.rules.specs.Answers.{refused, ok, saved, loaded}
-use Rattle.history.specs.declared.Call.the-variants.{Command, Save, Load}
-use Rattle.history.specs.History.{Request, StepFunction, History, ruled, after, made}
-use Rattle.history.specs.Moments.{Lasts, Unreported, Alive}
+use Rattle.rules.specs.Answers.{Answer, refused, ok, saved, loaded}
+use Rattle.history.specs.Calls.{Bytes, Save, Result, ruled}
+use Rattle.history.specs.Runs.{after, Made, Run, more, now, historyOf, followed, System}
+use Rattle.history.specs.Moments.{AdmissionOf, Placed, RestoreOf, Lasts, Unreported, Alive}
+
+-- Block b belongs to the live connection of handle x: what all that follows says of blocks goes through this.
+abbrev pub has : Schedule → ℕ → ℕ → Bool
+has s x b = owns (connection s x) b
 
 -- ---- demand 1
--- "Every call takes all numbers and all bytes, and ends": so does every step function. "A call that cannot be met returns one number
+-- "Every call takes all numbers and all bytes, and ends": a run goes on with any request. "A call that cannot be met returns one number
 -- from the rule sheet's table, and neither the schedule nor a lent buffer has changed."
-pub record Refusal (h : History) (r : Request) (step : StepFunction) (n : ℕ) : Type 0 where
-  pub inTable : (1 ≤ n) × (n ≤ 12)
-  pub schedule : made step h r .schedule ≡ after step h
-  pub buffer : made step h r .buffer ≡ r .buffer
+pub record Refusal (run : Run) (m : Made) (n : ℕ) : Type 0 where
+  pub inTable : (why : Named) × (n ≡ number why)
+  pub schedule : m .result .schedule ≡ now run
+  pub lent : m .result .lent ≡ m .request .lent
 
-abbrev pub Demand1 : StepFunction → Type 0
-Demand1 step = (h : History) (r : Request) (n : ℕ) → made step h r .answer ≡ refused n → Refusal h r step n
+abbrev pub Demand1 : System → Type 0
+Demand1 S = (run : Run) (m : Made) (n : ℕ) → S (more run m) → m .result .answer ≡ refused n → Refusal run m n
 
 -- ---- demand 2
 -- "Intervals and subrated events mean what the Bluetooth Core Specification says": an accepted interval is one, and F blocks are the
 -- longest power of two of blocks, to 512, that it holds;
-abbrev pub IntervalsMeant : StepFunction → Type 0
-IntervalsMeant step =
-    (h : History) (r : Request) (x interval floor ceiling F A L : ℕ) → r .call ≡ Command (Admit x interval floor ceiling) → made step h r .answer ≡ ok F A L
+abbrev pub IntervalsMeant : System → Type 0
+IntervalsMeant S =
+    (run : Run) (m : Made) (x interval floor ceiling F A L : ℕ) → S (more run m)
+    → AdmissionOf (m .request .call) x interval floor ceiling → m .result .answer ≡ ok F A L
     → (isInterval interval ≡ true) × (F * blockMicros ≤ intervalMicros interval) × ((k : ℕ) → 2 ^ k * blockMicros ≤ intervalMicros interval → 2 ^ k ≤ F)
 
 -- and a block belongs to a connection exactly if it is one of its subrated or continuation events.
-abbrev pub EventsMeant : StepFunction → Type 0
-EventsMeant step =
-    (h : History) (x b : ℕ) → isLive (after step h) x ≡ true
-    → (owns (connection (after step h) x) b ≡ true) ↔ Used (subrating (connection (after step h) x)) (pos b)
+abbrev pub EventsMeant : System → Type 0
+EventsMeant S =
+    (run : Run) (x b : ℕ) → S run → isLive (now run) x ≡ true → (has (now run) x b ≡ true) ↔ Used (subrating (connection (now run) x)) (pos b)
 
--- "each answer, anchor and length is the one the rule sheet's definitions give":
-abbrev pub AnswersGiven : StepFunction → Type 0
-AnswersGiven step = (h : History) (r : Request) → made step h r .answer ≡ ruled (after step h) r .answer
+-- "each answer, anchor and length is the one the rule sheet's definitions give": after the same history. What those give for a call,
+abbrev pub given : Run → Made → Result
+given run m = ruled (after (historyOf run)) (m .request)
 
--- a connection's factor, anchor and length, and whether it is live;
-pub record Run : Type 0 where
-  pub live : Bool
-  pub factor : ℕ
-  pub anchor : ℕ
-  pub length : ℕ
+-- the answer and every byte that was lent;
+abbrev pub ResultsGiven : System → Type 0
+ResultsGiven S = (run : Run) (m : Made) → S (more run m) → (m .result .answer ≡ given run m .answer) × (m .result .lent ≡ given run m .lent)
 
-abbrev pub run : Schedule → ℕ → Run
-run s x = let c = connection s x in record { live = c .live; factor = factor c; anchor = c .anchor; length = c .length }
+-- and of each handle: it is live in one exactly if in the other, and then has its factor, anchor, length, floor, ceiling and estimate.
+-- What stands in a free slot is nobody's business.
+pub record Alike (mine given : Connection) : Type 0 where
+  pub live : mine .live ≡ given .live
+  pub numbers : given .live ≡ true → mine ≡ given
 
-abbrev pub RunsGiven : StepFunction → Type 0
-RunsGiven step = (h : History) (r : Request) (x : ℕ) → run (made step h r .schedule) x ≡ run (ruled (after step h) r .schedule) x
+abbrev pub ConnectionsGiven : System → Type 0
+ConnectionsGiven S = (run : Run) (x : ℕ) → S run → Alike (connection (now run) x) (connection (after (historyOf run)) x)
+
+-- The tree's bytes are those of the connections.
+abbrev pub TreeGiven : System → Type 0
+TreeGiven S = (run : Run) → S run → now run .tree .bytes ≡ treeFor (now run .connections)
 
 -- "A new connection is refused for room exactly when no anchor exists whose whole run is free."
 abbrev pub WholeRunFree : Schedule → ℕ → ℕ → ℕ → Type 0
-WholeRunFree s F A floor = (j : ℕ) → j < floor → (b : ℕ) → b % F ≡ (A + j) % F → (x : ℕ) → owns (connection s x) b ≡ false
+WholeRunFree s F A floor = (j : ℕ) → j < floor → (b : ℕ) → b % F ≡ (A + j) % F → (x : ℕ) → has s x b ≡ false
 
-abbrev pub RoomExact : StepFunction → Type 0
-RoomExact step =
-    (h : History) (r : Request) (x interval floor ceiling : ℕ) → r .call ≡ Command (Admit x interval floor ceiling)
-    → x ≤ 63 → isLive (after step h) x ≡ false → isInterval interval ≡ true → shareWrong floor ceiling (2 ^ kOf interval) ≡ false
-    → (made step h r .answer ≡ refused 6) ↔ ((A : ℕ) → A < 2 ^ kOf interval → WholeRunFree (after step h) (2 ^ kOf interval) A floor → ⊥)
+-- Checks 1, 2, 4 and 5 pass.
+pub record Reaches (s : Schedule) (x interval floor ceiling : ℕ) : Type 0 where
+  pub check1 : aboveHandles x ≡ false
+  pub check2 : isLive s x ≡ false
+  pub check4 : intervalOutside interval ≡ false
+  pub check5 : shareWrong floor ceiling (2 ^ kOf interval) ≡ false
+
+-- It is then refused with 6 exactly when there is none, and accepted exactly when there is one.
+pub record RoomAsked (s : Schedule) (answer : Answer) (F floor : ℕ) : Type 0 where
+  pub shut : (answer ≡ refused (number NoOpenAnchor)) ↔ ((A : ℕ) → A < F → WholeRunFree s F A floor → ⊥)
+  pub opens : Placed answer ↔ ((A : ℕ) × (A < F) × WholeRunFree s F A floor)
+
+abbrev pub RoomExact : System → Type 0
+RoomExact S =
+    (run : Run) (m : Made) (x interval floor ceiling : ℕ) → S (more run m) → AdmissionOf (m .request .call) x interval floor ceiling
+    → Reaches (now run) x interval floor ceiling → RoomAsked (now run) (m .result .answer) (2 ^ kOf interval) floor
 
 -- "An image is restored exactly when it is the image of some sound schedule,"
-abbrev pub RestoreExact : StepFunction → Type 0
-RestoreExact step =
-    (h : History) (r : Request) → r .call ≡ Load
-    → ((n : ℕ) × (made step h r .answer ≡ loaded n)) ↔ ((cs : List Connection) × (length cs ≡ handles) × (sound cs ≡ true) × IsImage (r .image .list) cs)
+abbrev pub RestoreExact : System → Type 0
+RestoreExact S =
+    (run : Run) (m : Made) (bytes : Bytes) → S (more run m) → RestoreOf (m .request .call) bytes
+    → ((n : ℕ) × (m .result .answer ≡ loaded n)) ↔ ((cs : List Connection) × (length cs ≡ handles) × (sound cs ≡ true) × IsImage (bytes .list) cs)
 
 -- "and saving that schedule gives the same bytes."
-abbrev pub SavesSame : StepFunction → Type 0
-SavesSame step =
-    (h : History) (r save : Request) (n : ℕ) → r .call ≡ Load → made step h r .answer ≡ loaded n
-    → save .call ≡ Save → length (r .image .list) ≤ length (save .buffer)
-    → (made step (r ∷ h) save .answer ≡ saved (length (r .image .list)))
-    × (made step (r ∷ h) save .buffer ≡ r .image .list ++ drop (length (r .image .list)) (save .buffer))
+abbrev pub SavesSame : System → Type 0
+SavesSame S =
+    (run : Run) (m save : Made) (bytes : Bytes) (n : ℕ) → S (more (more run m) save)
+    → RestoreOf (m .request .call) bytes → m .result .answer ≡ loaded n
+    → save .request .call ≡ Save → length (bytes .list) ≤ length (save .request .lent .buffer)
+    → (save .result .answer ≡ saved (length (bytes .list)))
+    × (save .result .lent .buffer ≡ bytes .list ++ drop (length (bytes .list)) (save .request .lent .buffer))
 
-pub record Demand2 (step : StepFunction) : Type 0 where
-  pub intervals : IntervalsMeant step
-  pub events : EventsMeant step
-  pub answers : AnswersGiven step
-  pub runs : RunsGiven step
-  pub room : RoomExact step
-  pub restore : RestoreExact step
-  pub same : SavesSame step
+pub record Demand2 (S : System) : Type 0 where
+  pub intervals : IntervalsMeant S
+  pub events : EventsMeant S
+  pub results : ResultsGiven S
+  pub connections : ConnectionsGiven S
+  pub tree : TreeGiven S
+  pub room : RoomExact S
+  pub restore : RestoreExact S
+  pub same : SavesSame S
 
 -- ---- demand 3
--- How many of n successive blocks, begun at b, belong to a connection.
-unfoldable pub ownedFrom : Connection → ℕ → ℕ → ℕ
-unfolding owns
-ownedFrom c b zero = 0
-ownedFrom c b (suc n) =
-    let later = ownedFrom c (suc b) n in
-    cond (owns c b) (suc later) later
+-- Of how many of n successive blocks, begun at b, the test holds.
+unfoldable pub countFrom : (ℕ → Bool) → ℕ → ℕ → ℕ
+countFrom test b zero = 0
+countFrom test b (suc n) =
+    let later = countFrom test (suc b) n in
+    cond (test b) (suc later) later
 
 -- "every F successive blocks of the schedule as it then stands, begun anywhere in endless time, hold exactly L blocks that belong to it"
-abbrev pub Counted : StepFunction → Type 0
-Counted step =
-    (h : History) (x : ℕ) → isLive (after step h) x ≡ true
-    → (b : ℕ) → ownedFrom (connection (after step h) x) b (factor (connection (after step h) x)) ≡ connection (after step h) x .length
+abbrev pub Counted : System → Type 0
+Counted S =
+    (run : Run) (x : ℕ) → S run → isLive (now run) x ≡ true
+    → (b : ℕ) → countFrom (has (now run) x) b (factor (connection (now run) x)) ≡ connection (now run) x .length
 
 -- "Its next block is at most F minus L blocks away, a block of its own counting as 0."
-abbrev pub Near : StepFunction → Type 0
-Near step =
-    (h : History) (x : ℕ) → isLive (after step h) x ≡ true → (b : ℕ)
+abbrev pub Near : System → Type 0
+Near S =
+    (run : Run) (x : ℕ) → S run → isLive (now run) x ≡ true → (b : ℕ)
     → (d : ℕ)
-    × (d ≤ factor (connection (after step h) x) - connection (after step h) x .length)
-    × (owns (connection (after step h) x) (b + d) ≡ true)
-    × (owns (connection (after step h) x) b ≡ true → d ≡ 0)
+    × (d ≤ factor (connection (now run) x) - connection (now run) x .length)
+    × (has (now run) x (b + d) ≡ true)
+    × (has (now run) x b ≡ true → d ≡ 0)
 
 -- "No block belongs to two connections."
-abbrev pub Apart : StepFunction → Type 0
-Apart step = (h : History) (x y b : ℕ) → owns (connection (after step h) x) b ≡ true → owns (connection (after step h) y) b ≡ true → x ≡ y
+abbrev pub Apart : System → Type 0
+Apart S = (run : Run) (x y b : ℕ) → S run → has (now run) x b ≡ true → has (now run) y b ≡ true → x ≡ y
 
 -- "L stays between the floor and ceiling it was admitted or restored with."
-abbrev pub Bounded : StepFunction → Type 0
-Bounded step =
-    (h : History) (x floor ceiling : ℕ) → Alive step x floor ceiling h
-    → (floor ≤ connection (after step h) x .length) × (connection (after step h) x .length ≤ ceiling)
+abbrev pub Bounded : System → Type 0
+Bounded S =
+    (run : Run) (x floor ceiling : ℕ) → S run → Alive x floor ceiling run
+    → (floor ≤ connection (now run) x .length) × (connection (now run) x .length ≤ ceiling)
 
 -- "While it is live and no restore is accepted, only its own report changes its length or estimate, and no call its factor or anchor."
-abbrev pub Steady : StepFunction → Type 0
-Steady step =
-    (earlier : History) (between : List Request) (x : ℕ) → isLive (after step earlier) x ≡ true → Lasts step x earlier between
-    → (connection (after step (between ++ earlier)) x .k ≡ connection (after step earlier) x .k)
-    × (connection (after step (between ++ earlier)) x .anchor ≡ connection (after step earlier) x .anchor)
-    × (Unreported x earlier between
-    → (connection (after step (between ++ earlier)) x .length ≡ connection (after step earlier) x .length)
-    × (connection (after step (between ++ earlier)) x .estimate ≡ connection (after step earlier) x .estimate))
+abbrev pub Steady : System → Type 0
+Steady S =
+    (earlier : Run) (between : List Made) (x : ℕ) → S (followed earlier between) → isLive (now earlier) x ≡ true → Lasts x between
+    → (connection (now (followed earlier between)) x .k ≡ connection (now earlier) x .k)
+    × (connection (now (followed earlier between)) x .anchor ≡ connection (now earlier) x .anchor)
+    × (Unreported x between
+    → (connection (now (followed earlier between)) x .length ≡ connection (now earlier) x .length)
+    × (connection (now (followed earlier between)) x .estimate ≡ connection (now earlier) x .estimate))
 
 -- "It is live from its accepted admission, or the accepted restore of an image that holds it, until its own drop or the next accepted
 -- restore; no other call begins or ends it."
-abbrev pub Lives : StepFunction → Type 0
-Lives step = (h : History) (x : ℕ) → (isLive (after step h) x ≡ true) ↔ ((floor : ℕ) × (ceiling : ℕ) × Alive step x floor ceiling h)
+abbrev pub Lives : System → Type 0
+Lives S = (run : Run) (x : ℕ) → S run → (isLive (now run) x ≡ true) ↔ ((floor : ℕ) × (ceiling : ℕ) × Alive x floor ceiling run)
 
-pub record Demand3 (step : StepFunction) : Type 0 where
-  pub counted : Counted step
-  pub near : Near step
-  pub apart : Apart step
-  pub bounded : Bounded step
-  pub steady : Steady step
-  pub lives : Lives step
+pub record Demand3 (S : System) : Type 0 where
+  pub counted : Counted S
+  pub near : Near S
+  pub apart : Apart S
+  pub bounded : Bounded S
+  pub steady : Steady S
+  pub lives : Lives S

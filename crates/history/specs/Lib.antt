@@ -1,7 +1,9 @@
--- Histories, and the customer's demands over them, in the order to read them.
-pub mod History
+-- Runs of calls, and the customer's demands over them, in the order to read them.
+pub mod Calls
+pub mod Runs
 pub mod Moments
 pub mod Demands
+pub mod Code
 pub mod Versions
-pub mod Promises
+pub mod Said
 pub mod OneOutcome

@@ -17,9 +17,6 @@ use Rattle.schedule.specs.Promises.{Starts, Admits, Drops, Reports}
 use Rattle.image.specs.Promises.{Saves, Loads}
 use Rattle.command.specs.declared.Output.{Output}
 use Rattle.command.specs.Promises.{Runs}
-use Rattle.history.specs.declared.Call.{Call}
-use Rattle.history.specs.declared.Stepped.{Stepped}
-use Rattle.history.specs.Promises.{ofStepped, Steps}
 
 pub record OneOutcome : Type 0 where
   pub fresh : (a b : Schedule) → Starts a → Starts b → a ≡ b
@@ -33,6 +30,3 @@ pub record OneOutcome : Type 0 where
   pub save : (s : Schedule) (buffer x y : List ℕ) (a b : Saving) → Saves s buffer x a → Saves s buffer y b → (a ≡ b) × (x ≡ y)
   pub load : (s : Schedule) (bytes : List ℕ) (a b : Loaded) → Loads s bytes a → Loads s bytes b → a ≡ b
   pub run : (input : List ℕ) (a b : Output) → Runs input a → Runs input b → a ≡ b
-  -- The answer, the schedule and the buffer: which case of its enum holds a refusal, the sheet does not say.
-  pub step : (s : Schedule) (call : Call) (bytes buffer x y : List ℕ) (a b : Stepped)
-      → Steps s call bytes buffer x a → Steps s call bytes buffer y b → ofStepped a x ≡ ofStepped b y

@@ -1,111 +1,164 @@
--- "These versions are shut out": each as a step function.
+-- Versions that are shut out: the rule sheet's six, and five that answer nearly as they should. Each is a step function.
 use Prim.Native.Nat.{ℕ, _^_}
-use mathlib.Core.Bool.{Bool, true, false, cond}
-use lib.ListN.{set}
+use mathlib.Core.Path.{_≡_}
+use mathlib.Core.Bool.{Bool, true, false, cond, not, _&&_}
+use lib.Dec.{eqb}
+use lib.ListN.{set, length, replicate}
 use Rattle.rules.specs.declared.Schedule.{Schedule}
 use Rattle.rules.specs.declared.Connection.{Connection}
-use Rattle.rules.specs.declared.Command.the-variants.{Admit, Drop, Report, Owner, Anchor}
+use Rattle.rules.specs.declared.Refusal.the-variants.{HandleAbove63}
 use Rattle.rules.specs.Good.{scheduleOf}
+use Rattle.rules.specs.Refusals.{number}
 use Rattle.rules.specs.Handles.{connection, isLive}
 use Rattle.rules.specs.Answers.{Answer, refused, ok, dropped, kept, grown, shrunk, tight, owner, idle, slots, saved, loaded}
 use Rattle.rules.specs.Admit.{kOf, newConnection}
 use Rattle.rules.specs.Drop.{drop}
-use Rattle.history.specs.declared.Call.{Call}
-use Rattle.history.specs.declared.Call.the-variants.{Command as CallCommand, Save, Load}
-use Rattle.history.specs.History.{Request, Result, StepFunction, ruled}
+use Rattle.rules.specs.Report.{metered}
+use Rattle.history.specs.Calls.{Bytes, Call, Admit, Drop, Report, Owner, Anchor, Save, Load, Lent, Request, Result, ruledCall, ruled}
+use Rattle.history.specs.Runs.{StepFunction}
 
--- Whether an admission is accepted.
+-- ---- the rule's result, but for one kind of call
+abbrev onAdmit : (ℕ → ℕ → ℕ → ℕ → Result → Result) → Call → Result → Result
+onAdmit f (Admit x i floor ceiling) it = f x i floor ceiling it
+onAdmit f (Drop x) it = it
+onAdmit f (Report x sample) it = it
+onAdmit f (Owner b) it = it
+onAdmit f (Anchor x b) it = it
+onAdmit f Save it = it
+onAdmit f (Load bytes) it = it
+
+abbrev onDrop : (Result → Result) → Call → Result → Result
+onDrop f (Admit x i floor ceiling) it = it
+onDrop f (Drop x) it = f it
+onDrop f (Report x sample) it = it
+onDrop f (Owner b) it = it
+onDrop f (Anchor x b) it = it
+onDrop f Save it = it
+onDrop f (Load bytes) it = it
+
+abbrev onReport : (ℕ → Result → Result) → Call → Result → Result
+onReport f (Admit x i floor ceiling) it = it
+onReport f (Drop x) it = it
+onReport f (Report x sample) it = f x it
+onReport f (Owner b) it = it
+onReport f (Anchor x b) it = it
+onReport f Save it = it
+onReport f (Load bytes) it = it
+
+abbrev onOwner : (Result → Result) → Call → Result → Result
+onOwner f (Admit x i floor ceiling) it = it
+onOwner f (Drop x) it = it
+onOwner f (Report x sample) it = it
+onOwner f (Owner b) it = f it
+onOwner f (Anchor x b) it = it
+onOwner f Save it = it
+onOwner f (Load bytes) it = it
+
+abbrev onImage : (Result → Result) → (Result → Result) → Call → Result → Result
+onImage save load (Admit x i floor ceiling) it = it
+onImage save load (Drop x) it = it
+onImage save load (Report x sample) it = it
+onImage save load (Owner b) it = it
+onImage save load (Anchor x b) it = it
+onImage save load Save it = save it
+onImage save load (Load bytes) it = load it
+
+-- ---- and for a part of it
 abbrev accepted : Answer → Bool
 accepted (refused n) = false
 accepted (ok F A L) = true
-accepted dropped = false
-accepted (kept L) = false
-accepted (grown L) = false
-accepted (shrunk L) = false
-accepted (tight L) = false
-accepted (owner h) = false
-accepted idle = false
-accepted (slots n) = false
-accepted (saved n) = false
-accepted (loaded n) = false
+accepted dropped = true
+accepted (kept L) = true
+accepted (grown L) = true
+accepted (shrunk L) = true
+accepted (tight L) = true
+accepted (owner h) = true
+accepted idle = true
+accepted (slots n) = true
+accepted (saved n) = true
+accepted (loaded n) = true
 
--- The rule's result, but for the answer and the schedule.
-abbrev instead : Request → Answer → Schedule → Result
-instead r a s = record { answer = a; schedule = s; buffer = r .buffer }
+abbrev leaving : Schedule → Result → Result
+leaving s it = record { answer = it .answer; schedule = s; lent = it .lent }
+
+abbrev saying : Answer → Result → Result
+saying a it = record { answer = a; schedule = it .schedule; lent = it .lent }
 
 -- The schedule with another connection at a handle.
 abbrev with : Schedule → ℕ → Connection → Schedule
 with s x c = scheduleOf (set (s .connections) x c)
 
--- "one that refuses all"
-abbrev pub refusesAll : StepFunction
-refusesAll s r = instead r (refused 6) s
+-- An accepted admission leaves another connection than it should.
+abbrev storing : (Connection → Connection) → StepFunction
+storing change s r =
+    onAdmit (λ x i floor ceiling it. cond (accepted (it .answer)) (leaving (with (it .schedule) x (change (connection (it .schedule) x))) it) it)
+    (r .call) (ruled s r)
+
+-- ---- the rule sheet's six
+-- "one that refuses all": every step function that answers each call with some refusal.
+abbrev pub RefusesAll : StepFunction → Type 0
+RefusesAll step = (s : Schedule) (r : Request) → (n : ℕ) × (step s r .answer ≡ refused n)
 
 -- "one that gives every connection anchor 0"
-abbrev zeroed : Schedule → Request → Result → Call → Result
-zeroed s r it (CallCommand (Admit x i f c)) =
-    cond (accepted (it .answer)) (instead r (ok (2 ^ kOf i) 0 f) (with s x (newConnection (kOf i) 0 f c))) it
-zeroed s r it (CallCommand (Drop x)) = it
-zeroed s r it (CallCommand (Report x sample)) = it
-zeroed s r it (CallCommand (Owner b)) = it
-zeroed s r it (CallCommand (Anchor x b)) = it
-zeroed s r it Save = it
-zeroed s r it Load = it
-
 abbrev pub anchorsZero : StepFunction
-anchorsZero s r = zeroed s r (ruled s r) (r .call)
+anchorsZero s r =
+    onAdmit (λ x i floor ceiling it.
+    cond (accepted (it .answer)) (saying (ok (2 ^ kOf i) 0 floor) (leaving (with s x (newConnection (kOf i) 0 floor ceiling)) it)) it)
+    (r .call) (ruled s r)
 
 -- "one that does nothing on report or drop"
-abbrev unmoved : Schedule → Request → Result → Call → Result
-unmoved s r it (CallCommand (Admit x i f c)) = it
-unmoved s r it (CallCommand (Drop x)) = instead r (it .answer) s
-unmoved s r it (CallCommand (Report x sample)) = instead r (it .answer) s
-unmoved s r it (CallCommand (Owner b)) = it
-unmoved s r it (CallCommand (Anchor x b)) = it
-unmoved s r it Save = it
-unmoved s r it Load = it
-
 abbrev pub doesNothing : StepFunction
-doesNothing s r = unmoved s r (ruled s r) (r .call)
+doesNothing s r = onReport (λ x. leaving s) (r .call) (onDrop (leaving s) (r .call) (ruled s r))
 
 -- "one that schedules the first admission and invents the later answers": here handle 0's is the first.
-abbrev invented : Schedule → Request → Result → Call → Result
-invented s r it (CallCommand (Admit x i f c)) = cond (isLive s 0) (instead r (ok (2 ^ kOf i) 1 f) s) it
-invented s r it (CallCommand (Drop x)) = it
-invented s r it (CallCommand (Report x sample)) = it
-invented s r it (CallCommand (Owner b)) = it
-invented s r it (CallCommand (Anchor x b)) = it
-invented s r it Save = it
-invented s r it Load = it
-
 abbrev pub inventsAnswers : StepFunction
-inventsAnswers s r = invented s r (ruled s r) (r .call)
+inventsAnswers s r =
+    onAdmit (λ x i floor ceiling it. cond (isLive s 0) (saying (ok (2 ^ kOf i) 1 floor) (leaving s it)) it) (r .call) (ruled s r)
 
 -- "one whose length is a made-up number": a thousand blocks.
-abbrev stretched : Connection → Connection
-stretched c = record { live = c .live; k = c .k; anchor = c .anchor; length = 1000; floor = c .floor; ceiling = c .ceiling; estimate = c .estimate }
-
-abbrev lengthened : Schedule → Request → Result → Call → Result
-lengthened s r it (CallCommand (Admit x i f c)) = instead r (it .answer) (with (it .schedule) x (stretched (connection (it .schedule) x)))
-lengthened s r it (CallCommand (Drop x)) = it
-lengthened s r it (CallCommand (Report x sample)) = it
-lengthened s r it (CallCommand (Owner b)) = it
-lengthened s r it (CallCommand (Anchor x b)) = it
-lengthened s r it Save = it
-lengthened s r it Load = it
-
 abbrev pub makesUpLength : StepFunction
-makesUpLength s r = lengthened s r (ruled s r) (r .call)
+makesUpLength = storing (λ c. metered c 1000 (c .estimate))
 
 -- "one that ends a connection nobody dropped": whoever asks for an owner ends handle 0's.
-abbrev lost : Schedule → Request → Result → Call → Result
-lost s r it (CallCommand (Admit x i f c)) = it
-lost s r it (CallCommand (Drop x)) = it
-lost s r it (CallCommand (Report x sample)) = it
-lost s r it (CallCommand (Owner b)) = instead r (it .answer) (drop s 0 .schedule)
-lost s r it (CallCommand (Anchor x b)) = it
-lost s r it Save = it
-lost s r it Load = it
-
 abbrev pub endsAnother : StepFunction
-endsAnother s r = lost s r (ruled s r) (r .call)
+endsAnother s r = onOwner (leaving (drop s 0 .schedule)) (r .call) (ruled s r)
+
+-- ---- nearly as it should be
+-- An admission stores estimate 0.
+abbrev pub startsAtZero : StepFunction
+startsAtZero = storing (λ c. metered c (c .length) 0)
+
+-- A report never stores the estimate.
+abbrev pub forgetsEstimate : StepFunction
+forgetsEstimate s r =
+    onReport
+    (λ x it. leaving (with (it .schedule) x (metered (connection (it .schedule) x) (connection (it .schedule) x .length) (connection s x .estimate))) it)
+    (r .call) (ruled s r)
+
+-- An admission stores the floor in the place of the ceiling.
+abbrev capped : Connection → Connection
+capped c =
+    record { live = c .live; k = c .k; anchor = c .anchor; length = c .length; floor = c .floor; ceiling = c .floor; estimate = c .estimate }
+
+abbrev pub neverGrows : StepFunction
+neverGrows = storing capped
+
+-- An accepted load leaves a mark in a free slot; a save of a schedule without it answers the right size and writes other bytes.
+abbrev marked : Connection
+marked = record { live = false; k = 0; anchor = 1; length = 0; floor = 0; ceiling = 0; estimate = 0 }
+
+abbrev hasMark : Schedule → Bool
+hasMark s = not (isLive s 63) && eqb (connection s 63 .anchor) 1
+
+abbrev marking : Result → Result
+marking it = cond (accepted (it .answer) && not (isLive (it .schedule) 63)) (leaving (with (it .schedule) 63 marked) it) it
+
+abbrev blanked : Result → Result
+blanked it = record { answer = it .answer; schedule = it .schedule; lent = record { buffer = replicate (length (it .lent .buffer)) 0 } }
+
+abbrev pub losesBackups : StepFunction
+losesBackups s r = onImage (λ it. cond (hasMark s) it (blanked it)) marking (r .call) (ruled s r)
+
+-- Everything is refused with 1.
+abbrev pub refusesWithOne : StepFunction
+refusesWithOne s r = record { answer = refused (number HandleAbove63); schedule = s; lent = r .lent }

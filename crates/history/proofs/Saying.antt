@@ -1,0 +1,69 @@
+-- The command program prints, line by line, what the rule sheet's step answers after the commands said before.
+use mathlib.Core.Path.{_≡_, refl, sym, ap, ap₂, _∙_}
+use mathlib.Core.List.{List, [], _∷_, _++_, append-assoc}
+use Prim.Native.Nat.{ℕ, _≤_}
+use lib.ListN.{length}
+use Rattle.rules.specs.declared.Schedule.{Schedule}
+use Rattle.rules.specs.declared.Command.{Command}
+use Rattle.rules.specs.declared.Command.the-variants.{Admit, Drop, Report, Owner, Anchor}
+use Rattle.rules.specs.declared.Line.{Line}
+use Rattle.rules.specs.declared.Line.the-variants.{Says, Bad}
+use Rattle.rules.specs.Good.{fresh}
+use Rattle.rules.specs.Answers.{Outcome}
+use Rattle.rules.specs.Text.{byte, text}
+use Rattle.rules.specs.Split.{Parts, split}
+use Rattle.rules.specs.Words.{wordsOf}
+use Rattle.rules.specs.Commands.{says}
+use Rattle.rules.specs.Program.{Printed, mostInput, obey, heed, printed, tailPrinted, answered, program}
+use Rattle.rules.proofs.SplitLaws.{split-piece}
+use Rattle.rules.proofs.ProgramLaws.{heed-without, program-answered}
+use Rattle.history.specs.Calls.{Result, beside, ruledCall, ruled}
+use Rattle.history.specs.Runs.{Fresh, startOf, History, begin, next, after}
+use Rattle.history.specs.Said.{requestOf, heard, heardAll, told, toldAll, tailTold}
+
+-- A command's call is the one that the program makes for it.
+obey-ruled : (s : Schedule) (c : Command) → ruled s (requestOf c) ≡ beside (record { buffer = [] }) (obey s c)
+unfolding ruledCall obey
+obey-ruled s (Admit handle interval floor ceiling) = refl
+obey-ruled s (Drop handle) = refl
+obey-ruled s (Report handle sample) = refl
+obey-ruled s (Owner block) = refl
+obey-ruled s (Anchor handle block) = refl
+
+-- A line after a history: its words, and the schedule.
+heed-told : (h : History) (l : Line) → heed (after h) l ≡ record { words = told h l; schedule = after (heard h l) }
+unfolding heed told after
+heed-told h Bad = refl
+heed-told h (Says c) = ap (λ (t : Result). record { words = wordsOf (t .answer); schedule = t .schedule }) (sym (obey-ruled (after h) c))
+
+-- The lines of the output are what is told, line by line.
+printed-told : (h : History) (lines : List (List ℕ)) (tail : List ℕ)
+    → split (byte "\n") (printed (after h) lines ++ tailPrinted tail) ≡ record { pieces = toldAll h lines ++ tailTold tail; tail = [] }
+unfolding printed toldAll split
+printed-told h [] [] = refl
+printed-told h [] (b ∷ bs) = refl
+printed-told h (line ∷ lines) tail =
+    let one = heed (after h) (says line) in
+    let e = heed-told h (says line) in
+    rw (
+      append-assoc (one .words) (byte "\n" ∷ printed (one .schedule) lines) (tailPrinted tail),
+      split-piece (byte "\n") (one .words) (printed (one .schedule) lines ++ tailPrinted tail) (heed-without (after h) (says line)),
+      e,
+      printed-told (heard h (says line)) lines tail,
+    )
+
+-- "One line, ended by LF, is printed per input line": of an input of at most 4,096 bytes, each line that says a command prints the words of
+-- the step's answer after the commands said before it; other lines, and a tail, print `bad` and are in no history.
+pub program-told : (input : List ℕ) → length input ≤ mostInput
+    → split (byte "\n") (program input)
+    ≡ record { pieces = toldAll (begin Fresh) (split (byte "\n") input .pieces) ++ tailTold (split (byte "\n") input .tail); tail = [] }
+unfolding answered after startOf
+program-told input l =
+    ap (split (byte "\n")) (program-answered input l) ∙ printed-told (begin Fresh) (split (byte "\n") input .pieces) (split (byte "\n") input .tail)
+
+-- So each line, wherever it stands, is told after those before it.
+pub told-each : (h : History) (before : List (List ℕ)) (line : List ℕ) (later : List (List ℕ))
+    → toldAll h (before ++ line ∷ later) ≡ toldAll h before ++ told (heardAll h before) (says line) ∷ toldAll (heardAll h (before ++ line ∷ [])) later
+unfolding toldAll heardAll
+told-each h [] line later = refl
+told-each h (first ∷ before) line later = ap (λ l. told h (says first) ∷ l) (told-each (heard h (says first)) before line later)

@@ -1,0 +1,66 @@
+-- Calls: what is asked, what is lent, and what is left.
+use Prim.Native.Nat.{ℕ, _<_}
+use mathlib.Core.List.{List}
+use lib.ListN.{getD}
+use Rattle.rules.specs.declared.Schedule.{Schedule}
+use Rattle.rules.specs.Answers.{Answer, Outcome}
+use Rattle.rules.specs.Admit.{admit}
+use Rattle.rules.specs.Drop.{drop}
+use Rattle.rules.specs.Report.{report}
+use Rattle.rules.specs.Owner.{ownerOf}
+use Rattle.rules.specs.Anchor.{anchor}
+use Rattle.rules.specs.Save.{save}
+use Rattle.rules.specs.Load.{load}
+
+-- Bytes: numbers below 256.
+pub record Bytes : Type 0 where
+  pub list : List ℕ
+  pub small : (i : ℕ) → getD list i 0 < 256
+
+-- A call with any numbers, or any image bytes.
+pub data Call : Type 0 where
+  Admit : ℕ → ℕ → ℕ → ℕ → Call
+  Drop : ℕ → Call
+  Report : ℕ → ℕ → Call
+  Owner : ℕ → Call
+  Anchor : ℕ → ℕ → Call
+  Save : Call
+  Load : Bytes → Call
+
+-- All that is lent to a call, for it to write.
+pub record Lent : Type 0 where
+  pub buffer : List ℕ
+
+-- What is asked of the library.
+pub record Request : Type 0 where
+  pub call : Call
+  pub lent : Lent
+
+-- What a call leaves: the answer, the schedule and every byte of what was lent.
+pub record Result : Type 0 where
+  pub answer : Answer
+  pub schedule : Schedule
+  pub lent : Lent
+
+-- An outcome, beside what was lent and not written; and an answer, beside the schedule too.
+abbrev pub beside : Lent → Outcome → Result
+beside lent o = record { answer = o .answer; schedule = o .schedule; lent = lent }
+
+abbrev pub asked : Lent → Schedule → Answer → Result
+asked lent s a = record { answer = a; schedule = s; lent = lent }
+
+-- The rule sheet's own step: what its definitions give for a call.
+unfoldable pub ruledCall : Schedule → Call → Lent → Result
+unfolding admit drop report ownerOf anchor save load
+ruledCall s (Admit handle interval floor ceiling) lent = beside lent (admit s handle interval floor ceiling)
+ruledCall s (Drop handle) lent = beside lent (drop s handle)
+ruledCall s (Report handle sample) lent = beside lent (report s handle sample)
+ruledCall s (Owner block) lent = asked lent s (ownerOf s block)
+ruledCall s (Anchor handle block) lent = asked lent s (anchor s handle block)
+ruledCall s Save lent =
+    let w = save s (lent .buffer) in
+    record { answer = w .answer; schedule = s; lent = record { buffer = w .buffer } }
+ruledCall s (Load bytes) lent = beside lent (load s (bytes .list))
+
+abbrev pub ruled : Schedule → Request → Result
+ruled s r = ruledCall s (r .call) (r .lent)

@@ -1,0 +1,48 @@
+-- Runs of the code: a start, then public calls in whichever order, each result meeting that call's own promise.
+use Prim.Native.Nat.{ℕ}
+use mathlib.Core.Path.{_≡_}
+use mathlib.Core.List.{List}
+use Rattle.rules.specs.declared.Schedule.{Schedule}
+use Rattle.rules.specs.declared.Admitted.{Admitted}
+use Rattle.rules.specs.declared.Dropped.{Dropped}
+use Rattle.rules.specs.declared.Reported.{Reported}
+use Rattle.rules.specs.declared.Ownership.{Ownership}
+use Rattle.rules.specs.declared.Distance.{Distance}
+use Rattle.rules.specs.declared.Saving.{Saving}
+use Rattle.rules.specs.declared.Loaded.{Loaded}
+use Rattle.rules.specs.Answers.{ofAdmitted, ofDropped, ofReported, ofOwnership, ofDistance, ofSaving, ofLoaded}
+use Rattle.rules.specs.Owner.{ownerOf}
+use Rattle.rules.specs.Anchor.{anchor}
+use Rattle.schedule.specs.Promises.{Starts, Admits, Drops, Reports}
+use Rattle.image.specs.Promises.{Saves, Loads}
+use Rattle.history.specs.Calls.{Call, Admit, Drop, Report, Owner, Anchor, Save, Load, Lent, Result, beside, asked, ruled}
+use Rattle.history.specs.Runs.{Start, Fresh, after, Made, Run, begun, more, now, historyOf, System}
+use Rattle.history.specs.Demands.{Demand1, Demand2, Demand3}
+
+-- What the code begins with.
+abbrev pub StartsAs : Start → Schedule → Type 0
+StartsAs Fresh s = Starts s
+
+-- One case for each public call: what the code returned meets its promise, and is what is left.
+abbrev pub Meets : Schedule → Call → Lent → Result → Type 0
+Meets s (Admit handle interval floor ceiling) lent t = (r : Admitted) × Admits s handle interval floor ceiling r × (t ≡ beside lent (ofAdmitted r))
+Meets s (Drop handle) lent t = (r : Dropped) × Drops s handle r × (t ≡ beside lent (ofDropped r))
+Meets s (Report handle sample) lent t = (r : Reported) × Reports s handle sample r × (t ≡ beside lent (ofReported r))
+Meets s (Owner block) lent t = (r : Ownership) × (ofOwnership r ≡ ownerOf s block) × (t ≡ asked lent s (ofOwnership r))
+Meets s (Anchor handle block) lent t = (r : Distance) × (ofDistance r ≡ anchor s handle block) × (t ≡ asked lent s (ofDistance r))
+Meets s Save lent t =
+    (r : Saving) × (exit : List ℕ) × Saves s (lent .buffer) exit r × (t ≡ record { answer = ofSaving r; schedule = s; lent = record { buffer = exit } })
+Meets s (Load bytes) lent t = (r : Loaded) × Loads s (bytes .list) r × (t ≡ beside lent (ofLoaded r))
+
+abbrev pub Coded : System
+Coded (begun start s) = StartsAs start s
+Coded (more run m) = Coded run × Meets (now run) (m .request .call) (m .request .lent) (m .result)
+
+-- Of every run of the code: its schedule, each answer and every byte lent are those of the rule sheet's step after the same history; and
+-- the three demands hold.
+pub record CodeAsDemanded : Type 0 where
+  pub schedules : (run : Run) → Coded run → now run ≡ after (historyOf run)
+  pub results : (run : Run) (m : Made) → Coded (more run m) → m .result ≡ ruled (after (historyOf run)) (m .request)
+  pub demand1 : Demand1 Coded
+  pub demand2 : Demand2 Coded
+  pub demand3 : Demand3 Coded

@@ -1,0 +1,51 @@
+-- The command program's lines, by the same histories.
+use Prim.Native.Nat.{ℕ}
+use mathlib.Core.List.{List, [], _∷_, _++_}
+use Rattle.rules.specs.declared.Command.{Command}
+use Rattle.rules.specs.declared.Command.the-variants.{Admit as AdmitCommand, Drop as DropCommand, Report as ReportCommand, Owner as OwnerCommand, Anchor as AnchorCommand}
+use Rattle.rules.specs.declared.Line.{Line}
+use Rattle.rules.specs.declared.Line.the-variants.{Says, Bad}
+use Rattle.rules.specs.Text.{byte, text}
+use Rattle.rules.specs.Words.{wordsOf}
+use Rattle.rules.specs.Commands.{says}
+use Rattle.history.specs.Calls.{Call, Admit, Drop, Report, Owner, Anchor, Request, ruledCall, ruled}
+use Rattle.history.specs.Runs.{History, next, after}
+
+-- The call of a command, with nothing lent.
+abbrev pub callOf : Command → Call
+callOf (AdmitCommand handle interval floor ceiling) = Admit handle interval floor ceiling
+callOf (DropCommand handle) = Drop handle
+callOf (ReportCommand handle sample) = Report handle sample
+callOf (OwnerCommand block) = Owner block
+callOf (AnchorCommand handle block) = Anchor handle block
+
+abbrev pub requestOf : Command → Request
+requestOf c = record { call = callOf c; lent = record { buffer = [] } }
+
+-- The history after a line: one that says a command is in it, and no other.
+abbrev pub heard : History → Line → History
+heard h Bad = h
+heard h (Says c) = next h (requestOf c)
+
+-- And after lines, one after the other.
+unfoldable pub heardAll : History → List (List ℕ) → History
+unfolding says
+heardAll h [] = h
+heardAll h (line ∷ lines) = heardAll (heard h (says line)) lines
+
+-- What a line prints after a history: the words of the step's answer, or `bad`.
+unfoldable pub told : History → Line → List ℕ
+unfolding after ruledCall wordsOf
+told h Bad = text "bad"
+told h (Says c) = wordsOf (ruled (after h) (requestOf c) .answer)
+
+-- One line after the other, each after the commands said before it.
+unfoldable pub toldAll : History → List (List ℕ) → List (List ℕ)
+unfolding told says
+toldAll h [] = []
+toldAll h (line ∷ lines) = told h (says line) ∷ toldAll (heard h (says line)) lines
+
+-- A tail is a bad line.
+abbrev pub tailTold : List ℕ → List (List ℕ)
+tailTold [] = []
+tailTold (b ∷ bs) = text "bad" ∷ []
