@@ -146,6 +146,12 @@ belongs-used c b h = (
       belongs-congruent c b .1 (u .0, omega arith, congruent-subrated (subrating c) b (u .0) .1 (u .2)),
 )
 
+-- The factor divides every power of two from its own on.
+pub factor-mod : (c : Connection) (b n : ℕ) → c .k ≤ n → b % 2 ^ n % factor c ≡ b % factor c
+factor-mod c b n h =
+    let s : n - c .k + c .k ≡ n = omega arith in
+    rw s at (mod-mod-pow b (n - c .k) (c .k))
+
 -- Belonging depends only on the remainder by the factor, and so on the remainder by any larger power of two: by 512, and by
 -- 2^32, where a counter wraps.
 pub belongs-mod : (c : Connection) (b n : ℕ) → c .k ≤ n → belongs c (b % 2 ^ n) ≡ belongs c b
@@ -153,10 +159,8 @@ unfolding belongs
 belongs-mod c b n h =
     let F = factor c in
     let A = c .anchor in
-    let s : n - c .k + c .k ≡ n = omega arith in
-    let e : b % 2 ^ n % F ≡ b % F = rw s at (mod-mod-pow b (n - c .k) (c .k)) in
     ap (λ (x : ℕ). ltb x (c .length))
-    (sym (minusMod-mod (b % 2 ^ n) A F (pow-pos (c .k))) ∙ ap (λ (x : ℕ). minusMod x A F) e ∙ minusMod-mod b A F (pow-pos (c .k)))
+    (sym (minusMod-mod (b % 2 ^ n) A F (pow-pos (c .k))) ∙ ap (λ (x : ℕ). minusMod x A F) (factor-mod c b n h) ∙ minusMod-mod b A F (pow-pos (c .k)))
 
 pub belongs-list : (c : Connection) (b : ℕ) → c .k ≤ largestK → belongs c (b % listBlocks) ≡ belongs c b
 belongs-list c b h = belongs-mod c b 9 h
