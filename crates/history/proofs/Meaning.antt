@@ -16,7 +16,7 @@ use Rattle.rules.specs.Admit.{kOf, admitDone, admit}
 use Rattle.rules.specs.Image.{image}
 use Rattle.rules.specs.Program.{obey}
 use Rattle.rules.specs.Save.{Written}
-use Rattle.rules.proofs.EndlessTime.{belongs-used}
+use Rattle.rules.proofs.EndlessTime.{belongs-reserved}
 use Rattle.rules.proofs.SoundLaws.{Numbers, all-sound-at, sound-all}
 use Rattle.rules.proofs.AdmitLaws.{admit-cases, k-largest}
 use Rattle.rules.proofs.RoomLaws.{no-room-exactly}
@@ -57,7 +57,7 @@ unfolding owns
 events h x b live =
     let c = connection (after ruled h) x in
     let n : Numbers c = all-sound-at (after ruled h .connections) (sound-all (after ruled h .connections) (after-good h .isSound)) x live in
-    let u = belongs-used c b (omega (arith, n .positive, n .floored)) in
+    let u = belongs-reserved c b (omega (arith, n .positive, n .floored)) in
     let o : owns c b ≡ belongs c b = ap (λ (v : Bool). v && belongs c b) live in
     (λ t. u .0 (sym o ∙ t), λ t. o ∙ u .1 t)
 

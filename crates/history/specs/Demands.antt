@@ -10,7 +10,7 @@ use Rattle.rules.specs.declared.Schedule.{Schedule}
 use Rattle.rules.specs.declared.Connection.{Connection}
 use Rattle.rules.specs.declared.Command.the-variants.{Admit}
 use Rattle.rules.specs.Time.{blockMicros}
-use Rattle.rules.specs.Core.{isInterval, intervalMicros, Used}
+use Rattle.rules.specs.Core.{isInterval, intervalMicros, Reserved}
 use Rattle.rules.specs.Ownership.{handles, factor, subrating, owns}
 use Rattle.rules.specs.Sound.{sound}
 use Rattle.rules.specs.Handles.{connection, isLive}
@@ -44,7 +44,7 @@ IntervalsMeant step =
 abbrev pub EventsMeant : StepFunction → Type 0
 EventsMeant step =
     (h : History) (x b : ℕ) → isLive (after step h) x ≡ true
-    → (owns (connection (after step h) x) b ≡ true) ↔ Used (subrating (connection (after step h) x)) (pos b)
+    → (owns (connection (after step h) x) b ≡ true) ↔ Reserved (subrating (connection (after step h) x)) (pos b)
 
 -- "each answer, anchor and length is the one the rule sheet's definitions give":
 abbrev pub AnswersGiven : StepFunction → Type 0
