@@ -180,6 +180,10 @@ belongs-list c b h = belongs-mod c b 9 h
 pub belongs-wrapped : (c : Connection) (b : ℕ) → c .k ≤ largestK → belongs c (b % 2 ^ 32) ≡ belongs c b
 belongs-wrapped c b h = belongs-mod c b 32 (omega arith)
 
+-- From block F on the event j blocks earlier is itself a block.
+pub earlier-is-block : (c : Connection) (b j : ℕ) → c .length ≤ factor c → factor c ≤ b → j < c .length → pos b -ℤ pos j ≡ pos (b - j)
+earlier-is-block c b j h l m = event-less b j (omega arith)
+
 -- ---- the 16 bits of Core's event counter
 -- The events of two blocks with one remainder by F are alike.
 module _ (c : Connection) (a b : ℕ) (e : a % factor c ≡ b % factor c) where
@@ -203,7 +207,3 @@ module _ (c : Connection) (b : ℕ) (h : c .k ≤ largestK) where
 
   pub belongs-counter : belongs c (b % eventCounter) ≡ belongs c b
   belongs-counter = belongs-mod c b 16 (omega arith)
-
--- From block F on the event j blocks earlier is itself a block.
-pub earlier-is-block : (c : Connection) (b j : ℕ) → c .length ≤ factor c → factor c ≤ b → j < c .length → pos b -ℤ pos j ≡ pos (b - j)
-earlier-is-block c b j h l m = event-less b j (omega arith)
