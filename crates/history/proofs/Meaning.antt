@@ -16,7 +16,7 @@ use Rattle.rules.specs.Answers.{Answer, ok}
 use Rattle.rules.specs.Admit.{kOf, admitDone, admit}
 use Rattle.rules.specs.Image.{image}
 use Rattle.rules.specs.Save.{Written}
-use Rattle.rules.proofs.EndlessTime.{belongs-used}
+use Rattle.rules.proofs.EndlessTime.{belongs-reserved}
 use Rattle.rules.proofs.SoundLaws.{Numbers}
 use Rattle.rules.proofs.ScheduleLaws.{good-sound}
 use Rattle.rules.proofs.AdmitLaws.{admit-cases, k-largest}
@@ -53,7 +53,7 @@ unfolding owns
 events run x b by live =
     let c = connection (now run) x in
     let n : Numbers c = good-sound (now run) (now-good run by) .numbers x live in
-    let u = belongs-used c b (omega (arith, n .positive, n .floored)) in
+    let u = belongs-reserved c b (omega (arith, n .positive, n .floored)) in
     let o : owns c b ≡ belongs c b = ap (λ (v : Bool). v && belongs c b) live in
     (λ t. u .0 (sym o ∙ t), λ t. o ∙ u .1 t)
 

@@ -11,7 +11,7 @@ use Rattle.rules.specs.declared.Connection.{Connection}
 use Rattle.rules.specs.declared.Refusal.{Refusal as Named}
 use Rattle.rules.specs.declared.Refusal.the-variants.{NoOpenAnchor}
 use Rattle.rules.specs.Time.{blockMicros}
-use Rattle.rules.specs.Core.{isInterval, intervalMicros, Used}
+use Rattle.rules.specs.Core.{isInterval, intervalMicros, Reserved}
 use Rattle.rules.specs.Ownership.{handles, factor, subrating, owns}
 use Rattle.rules.specs.Sound.{sound}
 use Rattle.rules.specs.Good.{treeFor}
@@ -48,10 +48,10 @@ IntervalsMeant S =
     → AdmissionOf (m .request .call) x interval floor ceiling → m .result .answer ≡ ok F A L
     → (isInterval interval ≡ true) × (F * blockMicros ≤ intervalMicros interval) × ((k : ℕ) → 2 ^ k * blockMicros ≤ intervalMicros interval → 2 ^ k ≤ F)
 
--- and a block belongs to a connection exactly if it is one of its subrated or continuation events.
+-- and a block belongs to a connection exactly if it is reserved for it: one of its subrated events, or of the continuation events after one.
 abbrev pub EventsMeant : System → Type 0
 EventsMeant S =
-    (run : Run) (x b : ℕ) → S run → isLive (now run) x ≡ true → (has (now run) x b ≡ true) ↔ Used (subrating (connection (now run) x)) (pos b)
+    (run : Run) (x b : ℕ) → S run → isLive (now run) x ≡ true → (has (now run) x b ≡ true) ↔ Reserved (subrating (connection (now run) x)) (pos b)
 
 -- "each answer, anchor and length is the one the rule sheet's definitions give": after the same history. What those give for a call,
 abbrev pub given : Run → Made → Result

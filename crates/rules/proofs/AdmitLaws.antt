@@ -14,8 +14,8 @@ use borrow.Author.Tests.{le-leb, lt-leb, leb-true, le-ltb, ltb-true, ltb-false, 
 use Rattle.rules.specs.declared.Connection.{Connection}
 use Rattle.rules.specs.declared.Schedule.{Schedule}
 use Rattle.rules.specs.Time.{minusMod}
-use Rattle.rules.specs.Core.{isInterval}
-use Rattle.rules.specs.Ownership.{largestK, at, belongs, owns, taken}
+use Rattle.rules.specs.Core.{isInterval, baseInterval, subratedInterval}
+use Rattle.rules.specs.Ownership.{largestK, at, belongs, subrating, owns, taken}
 use Rattle.rules.specs.Classes.{depth, runFree}
 use Rattle.rules.specs.Mirror.{mirrored}
 use Rattle.rules.specs.Sound.{sound}
@@ -72,6 +72,14 @@ k-is k i h l m =
     (λ j p q.
     let g : 2 ^ suc k ≤ 2 ^ j = pow-mono p in
     lt-leb (6 * 2 ^ j) i (omega arith))
+
+-- The subrated events are as far apart as the longest power of two of base intervals that is not above the interval.
+pub interval-longest : (i A floor ceiling : ℕ) → isInterval i ≡ true
+    → (subratedInterval (subrating (newConnection (kOf i) A floor ceiling)) ≤ i)
+    × ((k : ℕ) → 2 ^ k * baseInterval ≤ i → 2 ^ k * baseInterval ≤ subratedInterval (subrating (newConnection (kOf i) A floor ceiling)))
+interval-longest i A floor ceiling e =
+    let l = k-largest i e in
+    (omega (arith, l .0), λ k h. let m : 2 ^ k ≤ 2 ^ kOf i = pow-mono (l .1 k (omega arith)) in omega arith)
 
 -- ---- the share
 pub share-bounds : (f c F : ℕ) → shareWrong f c F ≡ false → (1 ≤ f) × (f ≤ c) × (c ≤ F)

@@ -1,18 +1,18 @@
 -- Ownership over endless time: what the Core Specification's events say, and that the list of 512 blocks says it all.
-use mathlib.Core.Path.{_≡_, sym, ap, _∙_}
+use mathlib.Core.Path.{_≡_, refl, sym, ap, subst, _∙_}
 use mathlib.Core.Bool.{true}
 use mathlib.Core.Logic.{by-cases, _↔_}
 use Prim.Native.Nat.{ℕ, zero, suc, _+_, _-_, _*_, _/_, _%_, _^_, _<_, _≤_}
-use native.Mathlib.Nat.{mod-lt, mod-le, mod-eq-of-lt, mod-add-mod, add-mod-mod, add-mod-right, mul-add-mod-self-right, div-add-mod', mul-comm, mul-sub}
+use native.Mathlib.Nat.{mod-lt, mod-le, mod-eq-of-lt, mod-add-mod, add-mod-mod, add-zero, add-mod-right, mul-add-mod-self-right, div-add-mod', mul-comm, mul-sub}
 use native.Mathlib.Decide.{decLe}
 use native.Mathlib.Omega.{arith}
 use lib.Pow.{pow-pos, mod-mod-pow}
 use lib.Dec.{ltb}
-use lib.IntN.{ℤ, pos, negsuc, negℤ, _+ℤ_, _-ℤ_, _*ℤ_, -ℤ-+ℤ-cancel, +ℤ-negℤ-cancel, pos-+ℤ-pos, pos-*ℤ-pos, negsuc-*ℤ-pos, +ℤ-assoc, +ℤ-invl, +ℤ-invr, +ℤ-idl}
+use lib.IntN.{ℤ, pos, negsuc, negℤ, _+ℤ_, _-ℤ_, _*ℤ_, -ℤ-+ℤ-cancel, +ℤ-negℤ-cancel, pos-+ℤ-pos, pos-*ℤ-pos, negsuc-*ℤ-pos, +ℤ-assoc, +ℤ-invl, +ℤ-invr, +ℤ-idl, +ℤ-idr}
 use borrow.Author.Tests.{lt-ltb, ltb-true}
 use Rattle.rules.specs.declared.Connection.{Connection}
-use Rattle.rules.specs.Time.{listBlocks, minusMod}
-use Rattle.rules.specs.Core.{Subrating, Subrated, Used}
+use Rattle.rules.specs.Time.{blockMicros, listBlocks, minusMod}
+use Rattle.rules.specs.Core.{intervalMicros, baseInterval, eventCounter, Subrating, Subrated, Reserved}
 use Rattle.rules.specs.Ownership.{largestK, factor, belongs, subrating}
 
 -- ---- (a - b) mod F
@@ -45,6 +45,10 @@ module _ (a b F : ℕ) (pos-F : 0 < F) where
   minusMod-mod = mod-add-mod a F (F - b % F)
 
 -- ---- congruent blocks and subrated events
+-- "The base interval is one block."
+pub base-interval : intervalMicros baseInterval ≡ blockMicros
+base-interval = refl
+
 pos-injective : {m n : ℕ} → pos m ≡ pos n → m ≡ n
 pos-injective e = cc
 
@@ -135,16 +139,30 @@ belongs-congruent c b = (to, from)
         let e : minusMod b (c .anchor) F ≡ w .0 % F = minusMod-only b (c .anchor) F (pow-pos (c .k)) (w .0 % F) (mod-lt (w .0) (pow-pos (c .k))) (w .2 ∙ sym (add-mod-mod (c .anchor) (w .0) F)) in
         lt-ltb (minusMod b (c .anchor) F) (c .length) (omega (arith, mod-le (w .0) F))
 
--- A block belongs to a connection exactly if the Core Specification uses its event: it is a subrated event, or one of the
--- L - 1 continuation events after one.
-pub belongs-used : (c : Connection) (b : ℕ) → 1 ≤ c .length → (belongs c b ≡ true) ↔ Used (subrating c) (pos b)
-belongs-used c b h = (
+-- A block belongs to a connection exactly if its event is reserved for it: a subrated event, or one of the L - 1 continuation
+-- events after one.
+pub belongs-reserved : (c : Connection) (b : ℕ) → 1 ≤ c .length → (belongs c b ≡ true) ↔ Reserved (subrating c) (pos b)
+belongs-reserved c b h = (
   λ e.
       let w = belongs-congruent c b .0 e in
       (w .0, omega arith, congruent-subrated (subrating c) b (w .0) .0 (w .2)),
   λ u.
       belongs-congruent c b .1 (u .0, omega arith, congruent-subrated (subrating c) b (u .0) .1 (u .2)),
 )
+
+-- The subrated events are exactly the anchors.
+pub anchors-subrated : (c : Connection) (b : ℕ) → (b % factor c ≡ c .anchor % factor c) ↔ Subrated (subrating c) (pos b)
+anchors-subrated c b =
+    subst (λ (z : ℤ). (b % factor c ≡ c .anchor % factor c) ↔ Subrated (subrating c) z) (+ℤ-idr (pos b)) (rw (add-zero (c .anchor)) at (congruent-subrated (subrating c) b 0))
+
+pub anchored-subrated : (c : Connection) (b : ℕ) → c .anchor < factor c → (b % factor c ≡ c .anchor) ↔ Subrated (subrating c) (pos b)
+anchored-subrated c b h = rw (mod-eq-of-lt h) at (anchors-subrated c b)
+
+-- The factor divides every power of two from its own on.
+pub factor-mod : (c : Connection) (b n : ℕ) → c .k ≤ n → b % 2 ^ n % factor c ≡ b % factor c
+factor-mod c b n h =
+    let s : n - c .k + c .k ≡ n = omega arith in
+    rw s at (mod-mod-pow b (n - c .k) (c .k))
 
 -- Belonging depends only on the remainder by the factor, and so on the remainder by any larger power of two: by 512, and by
 -- 2^32, where a counter wraps.
@@ -153,10 +171,8 @@ unfolding belongs
 belongs-mod c b n h =
     let F = factor c in
     let A = c .anchor in
-    let s : n - c .k + c .k ≡ n = omega arith in
-    let e : b % 2 ^ n % F ≡ b % F = rw s at (mod-mod-pow b (n - c .k) (c .k)) in
     ap (λ (x : ℕ). ltb x (c .length))
-    (sym (minusMod-mod (b % 2 ^ n) A F (pow-pos (c .k))) ∙ ap (λ (x : ℕ). minusMod x A F) e ∙ minusMod-mod b A F (pow-pos (c .k)))
+    (sym (minusMod-mod (b % 2 ^ n) A F (pow-pos (c .k))) ∙ ap (λ (x : ℕ). minusMod x A F) (factor-mod c b n h) ∙ minusMod-mod b A F (pow-pos (c .k)))
 
 pub belongs-list : (c : Connection) (b : ℕ) → c .k ≤ largestK → belongs c (b % listBlocks) ≡ belongs c b
 belongs-list c b h = belongs-mod c b 9 h
@@ -167,3 +183,27 @@ belongs-wrapped c b h = belongs-mod c b 32 (omega arith)
 -- From block F on the event j blocks earlier is itself a block.
 pub earlier-is-block : (c : Connection) (b j : ℕ) → c .length ≤ factor c → factor c ≤ b → j < c .length → pos b -ℤ pos j ≡ pos (b - j)
 earlier-is-block c b j h l m = event-less b j (omega arith)
+
+-- ---- the 16 bits of Core's event counter
+-- The events of two blocks with one remainder by F are alike.
+module _ (c : Connection) (a b : ℕ) (e : a % factor c ≡ b % factor c) where
+  subrated-alike : Subrated (subrating c) (pos a) → Subrated (subrating c) (pos b)
+  subrated-alike s = anchors-subrated c b .0 (sym e ∙ anchors-subrated c a .1 s)
+
+  reserved-alike : Reserved (subrating c) (pos a) → Reserved (subrating c) (pos b)
+  reserved-alike u = (u .0, u .1, congruent-subrated (subrating c) b (u .0) .0 (sym e ∙ congruent-subrated (subrating c) a (u .0) .1 (u .2)))
+
+-- As F divides 2^16, a counter that wraps there loses nothing.
+module _ (c : Connection) (b : ℕ) (h : c .k ≤ largestK) where
+  pub subrated-counter : Subrated (subrating c) (pos (b % eventCounter)) ↔ Subrated (subrating c) (pos b)
+  subrated-counter =
+      let e = factor-mod c b 16 (omega arith) in
+      (subrated-alike c (b % eventCounter) b e, subrated-alike c b (b % eventCounter) (sym e))
+
+  pub reserved-counter : Reserved (subrating c) (pos (b % eventCounter)) ↔ Reserved (subrating c) (pos b)
+  reserved-counter =
+      let e = factor-mod c b 16 (omega arith) in
+      (reserved-alike c (b % eventCounter) b e, reserved-alike c b (b % eventCounter) (sym e))
+
+  pub belongs-counter : belongs c (b % eventCounter) ≡ belongs c b
+  belongs-counter = belongs-mod c b 16 (omega arith)

@@ -1,14 +1,43 @@
 -- What the rule that moves a meter means.
-use mathlib.Core.Path.{_≡_, refl, ap}
+use mathlib.Core.Path.{_≡_, refl, ap, _∙_}
 use mathlib.Core.Bool.{Bool, true, false}
 use mathlib.Core.Logic.{by-cases}
 use Prim.Native.Nat.{ℕ, zero, suc, _+_, _-_, _*_, _/_, _<_, _≤_}
+use native.Mathlib.Nat.{zero-mul, suc-mul, mod-lt, div-add-mod'}
 use native.Mathlib.Decide.{decLe, ℕ-discrete}
 use native.Mathlib.Omega.{arith}
-use lib.IntN.{pos, negsuc, _-ℤ_}
+use lib.Dec.{le→leb, lt→ltb}
+use lib.IntN.{ℤ, pos, negsuc, negℤ, _+ℤ_, _-ℤ_, _*ℤ_, +ℤ-one}
+use lib.Signed.{_≤ℤ_, _<ℤ_, leZ-yes, ltZ-yes}
 use borrow.Author.Tests.{lt-ltb, le-ltb, eq-eqb, ne-eqb}
 use Rattle.rules.specs.Answers.{Answer, kept, grown, shrunk, tight}
 use Rattle.rules.specs.Meter.{floorDiv, moved, need, target, change}
+
+-- ---- division rounded toward minus infinity
+neg-most : (m n : ℕ) → n < m → negℤ (pos m) ≤ℤ negsuc n
+neg-most zero n h = absurd (omega arith)
+neg-most (suc m) n h = leZ-yes (le→leb n m (omega arith))
+
+neg-above : (m n : ℕ) → m ≤ n → negsuc n <ℤ negℤ (pos m)
+neg-above zero n h = ltZ-yes tt
+neg-above (suc m) n h = ltZ-yes (lt→ltb m n (omega arith))
+
+-- One more than -(q + 1), times d
+neg-times : (q d : ℕ) → (negsuc q +ℤ pos 1) *ℤ pos d ≡ negℤ (pos (q * d))
+neg-times zero d = ap (λ (z : ℤ). z *ℤ pos d) (+ℤ-one (negsuc zero)) ∙ rw (zero-mul d)
+neg-times (suc q) d = ap (λ (z : ℤ). z *ℤ pos d) (+ℤ-one (negsuc (suc q)))
+
+-- It is the largest whole number of which d times is at most x: one more is above.
+pub floor-largest : (x : ℤ) (d : ℕ) → 0 < d → ((floorDiv x d *ℤ pos d) ≤ℤ x) × (x <ℤ ((floorDiv x d +ℤ pos 1) *ℤ pos d))
+unfolding floorDiv
+floor-largest (pos n) d h =
+    let e = div-add-mod' n d in
+    let r = mod-lt n h in
+    (leZ-yes (le→leb (n / d * d) n (omega arith)), ltZ-yes (lt→ltb n ((n / d + 1) * d) (omega arith)))
+floor-largest (negsuc n) d h =
+    let e = div-add-mod' n d in
+    let r = mod-lt n h in
+    (neg-most (suc (n / d) * d) n (rw (suc-mul (n / d) d) (omega arith)), rw (neg-times (n / d) d) (neg-above (n / d * d) n (omega arith)))
 
 -- ---- the estimate
 -- s less e, over the integers: a difference from 0 up, and one below 0.
@@ -21,6 +50,16 @@ down s zero h = absurd (omega arith)
 down s (suc e) h =
     let q : suc e - suc s ≡ suc e - s - 1 = omega arith in
     rw (lt-ltb s (suc e) h, q)
+
+-- "e becomes e + floor((s - e) / 8) for sample s", over the integers.
+pub moved-integers : (e s : ℕ) → pos (moved e s) ≡ pos e +ℤ floorDiv (pos s -ℤ pos e) 8
+unfolding moved floorDiv
+moved-integers e s =
+    by-cases (decLe e s)
+    (λ h. rw (up s e h))
+    (λ h.
+    let l : suc ((e - s - 1) / 8) ≤ e = omega arith in
+    rw (down s e (omega arith), le-ltb e (suc ((e - s - 1) / 8)) l))
 
 pub moved-up : (e s : ℕ) → e ≤ s → moved e s ≡ e + (s - e) / 8
 unfolding moved floorDiv

@@ -3,10 +3,11 @@ use mathlib.Core.Path.{_≡_, refl, ap, _∙_}
 use Prim.Native.Nat.{ℕ, zero, suc, _+_, _-_, _*_, _/_, _%_, _^_, _<_}
 use native.Mathlib.Nat.{pow-suc, zero-add, suc-add, add-comm, div-one}
 use native.Mathlib.Omega.{arith}
-use lib.Dec.{lit<}
+use lib.Dec.{lit<, eqb}
 use lib.Bits.{block-odd, block-half}
 use lib.Pow.{pow-add, low, high, shr-shr}
 use Rattle.rules.specs.Mirror.{mirrored}
+use Rattle.rules.specs.TreeBytes.{bitOf}
 
 bit-lt : (b m n : ℕ) → b < 2 → m < n → b * n + m < n * 2
 bit-lt zero m n hb h = omega arith
@@ -50,6 +51,16 @@ mirror-mirror (suc k) p h =
 -- The lowest K bits of what is mirrored are the highest K, mirrored.
 pub mirror-low : (d K p : ℕ) → mirrored (K + d) p % 2 ^ K ≡ mirrored K (p / 2 ^ d)
 mirror-low d K p = rw (add-comm K d, mirror-split d K p) (low (mirrored d p) K (mirror-lt K (p / 2 ^ d)))
+
+-- "p with its k bits in mirrored order": bit i of what is mirrored is bit k - 1 - i of p.
+pub mirror-bit : (k p i : ℕ) → i < k → bitOf (mirrored k p) i ≡ bitOf p (k - 1 - i)
+unfolding mirrored
+mirror-bit k p i h =
+    let d = k - 1 - i in
+    let e : k ≡ 1 + d + i = omega arith in
+    let above : mirrored (1 + d + i) p / 2 ^ i ≡ mirrored (1 + d) p = rw (mirror-split (1 + d) i p) (high (mirrored (1 + d) p) i (mirror-lt i (p / 2 ^ (1 + d)))) in
+    let lowest : mirrored (1 + d) p % 2 ≡ p / 2 ^ d % 2 = mirror-low d 1 p ∙ omega arith in
+    ap (λ (x : ℕ). eqb (x % 2) 1) (ap (λ (x : ℕ). mirrored x p / 2 ^ i) e ∙ above) ∙ ap (λ (x : ℕ). eqb x 1) lowest
 
 -- Without its lowest bit, what is mirrored is the mirror of one bit less.
 mirror-half : (k p : ℕ) → mirrored (suc k) p / 2 ≡ mirrored k p

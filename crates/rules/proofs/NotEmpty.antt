@@ -1,11 +1,11 @@
 -- The definitions are not empty: good schedules, and schedules that are not good for one slip.
-use mathlib.Core.Path.{refl, sym, ap, _∙_}
+use mathlib.Core.Path.{_≡_, refl, sym, ap, _∙_}
 use mathlib.Core.Bool.{true, false, false≢true}
 use mathlib.Core.Logic.{_≢_}
-use mathlib.Core.List.{List}
+use mathlib.Core.List.{List, [], _∷_, _++_}
 use Prim.Native.Nat.{ℕ}
 use native.Mathlib.Omega.{arith}
-use lib.ListN.{replicate, set}
+use lib.ListN.{length, replicate, set}
 use Rattle.rules.specs.declared.Connection.{Connection}
 use Rattle.rules.specs.declared.Schedule.{Schedule}
 use Rattle.rules.specs.Below.{tabulate}
@@ -14,11 +14,15 @@ use Rattle.rules.specs.TreeBytes.{bitAt}
 use Rattle.rules.specs.Sound.{sound}
 use Rattle.rules.specs.Good.{Good, scheduleOf, fresh, treeFor}
 use Rattle.rules.specs.Nodes.{nodeBit}
+use Rattle.rules.specs.Answers.{Outcome, refusing, loaded}
+use Rattle.rules.specs.Image.{joined, countPiece, connectionPieces, image}
+use Rattle.rules.specs.Load.{load}
 use Rattle.rules.proofs.TreeLaws.{tree-bit}
 use Rattle.rules.proofs.SoundLaws.{scheduled-good}
+use Rattle.rules.proofs.ImageLaws.{liveCount, load-image}
 
 -- A connection of length 1.
-single : ℕ → ℕ → ℕ → Connection
+pub single : ℕ → ℕ → ℕ → Connection
 single k A e = record { live = true; k = k; anchor = A; length = 1; floor = 1; ceiling = 1; estimate = e }
 
 -- ---- good schedules
@@ -76,3 +80,34 @@ full-estimate-is-good = scheduled-good (over 7500) refl refl
 pub over-is-not-good : Good (scheduleOf (over 7501)) → ⊥
 unfolding over sound scheduleOf
 over-is-not-good g = false≢true (g .isSound)
+
+-- ---- images, and bytes that load refuses
+-- The image of a full house is accepted.
+pub house-is-loaded : (s : Schedule) → load s (image house) .answer ≡ loaded 64
+unfolding house scheduleOf liveCount
+house-is-loaded s = ap (λ (o : Outcome). o .answer) (load-image s house (house-is-good .places) (house-is-good .isSound))
+
+-- The records of these connections, handles from 0 on, before an empty tree.
+pub treeless : List Connection → List ℕ
+unfolding joined countPiece connectionPieces
+treeless cs = joined (countPiece (length cs) ∷ (connectionPieces 0 cs ++ (record { kind = 3; payload = replicate 128 0 } ∷ [])))
+
+-- 9: a byte is left over.
+pub left-over-is-9 : (s : Schedule) → load s (treeless [] ++ (0 ∷ [])) ≡ refusing s 9
+unfolding treeless load
+left-over-is-9 s = refl
+
+-- 10: an estimate one above L × 7,500.
+pub over-is-10 : (s : Schedule) → load s (treeless (single 3 5 7501 ∷ [])) ≡ refusing s 10
+unfolding treeless single load
+over-is-10 s = refl
+
+-- 11: two connections on one anchor.
+pub shared-is-11 : (s : Schedule) → load s (treeless (single 3 5 5000 ∷ single 3 5 5000 ∷ [])) ≡ refusing s 11
+unfolding treeless single load
+shared-is-11 s = refl
+
+-- 12: the tree of no connection.
+pub treeless-is-12 : (s : Schedule) → load s (treeless (single 3 5 5000 ∷ [])) ≡ refusing s 12
+unfolding treeless single load
+treeless-is-12 s = refl

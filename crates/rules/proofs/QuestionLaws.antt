@@ -4,20 +4,22 @@ use mathlib.Core.Bool.{true, false, not, false≢true}
 use mathlib.Core.Logic.{by-cases, _↔_}
 use mathlib.Core.List.{[], _∷_}
 use mathlib.Core.Option.{Option, none, some}
-use Prim.Native.Nat.{ℕ, _+_, _*_, _%_, _<_, _≤_}
-use native.Mathlib.Nat.{mod-lt, mod-le, add-mod-mod}
+use Prim.Native.Nat.{ℕ, _+_, _*_, _%_, _^_, _<_, _≤_}
+use native.Mathlib.Nat.{add-zero, mod-lt, mod-le, add-mod-mod}
 use native.Mathlib.Decide.{decLe}
 use native.Mathlib.Omega.{arith}
 use lib.Pow.{pow-pos}
 use lib.Dec.{ltb}
+use lib.IntN.{pos}
 use lib.ListN.{length, List·getD-eq-default}
 use borrow.Author.Tests.{lt-ltb, le-ltb}
 use Rattle.rules.specs.declared.Connection.{Connection}
 use Rattle.rules.specs.declared.Schedule.{Schedule}
 use Rattle.rules.specs.Below.{least}
 use Rattle.rules.specs.Time.{listBlocks, minusMod}
+use Rattle.rules.specs.Core.{Subrated}
 use Rattle.rules.specs.Classes.{depth, free}
-use Rattle.rules.specs.Ownership.{handles, nobody, factor, owns, taken}
+use Rattle.rules.specs.Ownership.{handles, largestK, nobody, factor, subrating, owns, taken}
 use Rattle.rules.specs.Good.{Good}
 use Rattle.rules.specs.Refusals.{check}
 use Rattle.rules.specs.Answers.{refused, owner, idle, slots}
@@ -27,7 +29,7 @@ use Rattle.rules.specs.Anchor.{slotsToAnchor, anchor}
 use Rattle.rules.proofs.BoolLaws.{is-false}
 use Rattle.rules.proofs.BelowLaws.{least-some, least-none, least-is, least-is-none}
 use Rattle.rules.proofs.SoundLaws.{class-free-ever}
-use Rattle.rules.proofs.EndlessTime.{minusMod-back, minusMod-only}
+use Rattle.rules.proofs.EndlessTime.{minusMod-back, minusMod-only, anchors-subrated, factor-mod}
 use Rattle.rules.proofs.ScheduleLaws.{good-sound, nobody-owns}
 use Rattle.rules.proofs.RefusalLaws.{decided-stop, decided-skip, decided-passed}
 
@@ -114,3 +116,20 @@ anchor-least c b = (
       minusMod-only (c .anchor) b (factor c) (pow-pos (c .k)) (j % factor c) (mod-lt j (pow-pos (c .k))) (sym e ∙ sym (add-mod-mod b j (factor c))) in
       omega (arith, mod-le j (factor c)),
 )
+
+-- "0 if the block is an anchor", which it is exactly if its event is a subrated one.
+pub at-anchor : (c : Connection) (b : ℕ) → (slotsToAnchor c b ≡ 0) ↔ Subrated (subrating c) (pos b)
+unfolding slotsToAnchor
+at-anchor c b =
+    let F = factor c in
+    let d = minusMod (c .anchor) b F in
+    let back = minusMod-back (c .anchor) b F (pow-pos (c .k)) in
+    let only = minusMod-only (c .anchor) b F (pow-pos (c .k)) 0 (pow-pos (c .k)) in (
+      λ e. let z : d ≡ 0 = omega arith in anchors-subrated c b .0 (rw (z, add-zero b) at back),
+      λ s. let z : d ≡ 0 = only (rw (add-zero b) (sym (anchors-subrated c b .1 s))) in omega arith,
+    )
+
+-- "As 512 divides 2^32, a counter that wraps loses nothing."
+pub anchor-wrapped : (c : Connection) (b : ℕ) → c .k ≤ largestK → slotsToAnchor c (b % 2 ^ 32) ≡ slotsToAnchor c b
+unfolding slotsToAnchor minusMod
+anchor-wrapped c b h = rw (factor-mod c b 32 (omega arith))

@@ -4,15 +4,18 @@ use mathlib.Core.Path.{_≡_, refl}
 use mathlib.Core.Bool.{true}
 use mathlib.Core.List.{List, [], _∷_, _++_, map}
 use lib.ListN.{set, replicate}
+use Rattle.rules.specs.declared.Connection.{Connection}
 use Rattle.rules.specs.declared.Schedule.{Schedule}
 use Rattle.rules.specs.Ownership.{handles, nobody}
-use Rattle.rules.specs.Good.{scheduleOf, fresh}
+use Rattle.rules.specs.Sound.{sound}
+use Rattle.rules.specs.Good.{Good, scheduleOf, fresh}
 use Rattle.rules.specs.Answers.{Answer, refused, ok, shrunk, owner}
 use Rattle.rules.specs.Handles.{connection}
 use Rattle.rules.specs.Admit.{admit}
 use Rattle.rules.specs.Meter.{moved, need}
 use Rattle.rules.specs.Report.{report}
 use Rattle.rules.specs.Owner.{ownerOf}
+use Rattle.rules.proofs.SoundLaws.{scheduled-good}
 
 -- An entry of the table: an answer or a number.
 pub data Entry : Type 0 where
@@ -38,9 +41,29 @@ unfolding admit
 andThen s handle interval share = admit s handle interval share share .schedule
 
 -- One live connection, of handle 0.
+one : ℕ → ℕ → ℕ → ℕ → ℕ → ℕ → List Connection
+one k A L floor ceiling e = set (replicate handles nobody) 0 (record { live = true; k = k; anchor = A; length = L; floor = floor; ceiling = ceiling; estimate = e })
+
 alone : ℕ → ℕ → ℕ → ℕ → ℕ → ℕ → Schedule
-unfolding scheduleOf
-alone k A L floor ceiling e = scheduleOf (set (replicate handles nobody) 0 (record { live = true; k = k; anchor = A; length = L; floor = floor; ceiling = ceiling; estimate = e }))
+unfolding one scheduleOf
+alone k A L floor ceiling e = scheduleOf (one k A L floor ceiling e)
+
+-- The schedules that the sheet writes down: "One live connection F 4, anchor 1, L 2"; "e 5,000, L 1"; "e 5,312, L 2, floor 1"; "e 0".
+pub oneLive : Schedule
+unfolding alone
+oneLive = alone 2 1 2 2 2 12500
+
+pub e5000 : Schedule
+unfolding alone
+e5000 = alone 3 0 1 1 2 5000
+
+pub e5312 : Schedule
+unfolding alone
+e5312 = alone 3 0 2 1 2 5312
+
+pub e0 : Schedule
+unfolding alone
+e0 = alone 3 0 1 1 2 0
 
 -- The answer of a report of handle 0, and the estimate after it.
 reports : Schedule → ℕ → Entry
@@ -96,11 +119,10 @@ pairs =
 
 -- "One live connection F 4, anchor 1, L 2; interval 24 with floor and ceiling 2: anchor 3, blocks 3 and 0."
 roundTheEnd : List Row
-unfolding admits andThen alone ownerOf
+unfolding admits andThen oneLive ownerOf
 roundTheEnd =
-    let s = alone 2 1 2 2 2 12500 in
-    let s₁ = andThen s 1 24 2 in
-    admits s 1 24 2 ∼ says (ok 4 3 2)
+    let s₁ = andThen oneLive 1 24 2 in
+    admits oneLive 1 24 2 ∼ says (ok 4 3 2)
     ∷ says (ownerOf s₁ 3) ∼ says (owner 1)
     ∷ says (ownerOf s₁ 0) ∼ says (owner 1)
     ∷ says (ownerOf s₁ 1) ∼ says (owner 0)
@@ -110,18 +132,16 @@ roundTheEnd =
 -- "e 5,000, L 1: sample 5,007 keeps 5,000; 5,008 gives 5,001 and need 2; 4,999 gives 4,999; 7,501 is refusal 7. e 5,312, L 2,
 -- floor 1, sample 0: estimate 4,648, shrunk to 1. e 0, sample 0: 0."
 meters : List Row
-unfolding reports estimates alone moved
+unfolding reports estimates e5000 e5312 e0 moved
 meters =
-    let s = alone 3 0 1 1 2 5000 in
-    let t = alone 3 0 2 1 2 5312 in
-    estimates s 5007 ∼ is 5000
-    ∷ estimates s 5008 ∼ is 5001
+    estimates e5000 5007 ∼ is 5000
+    ∷ estimates e5000 5008 ∼ is 5001
     ∷ is (need (moved 5000 5008)) ∼ is 2
-    ∷ estimates s 4999 ∼ is 4999
-    ∷ reports s 7501 ∼ says (refused 7)
-    ∷ estimates t 0 ∼ is 4648
-    ∷ reports t 0 ∼ says (shrunk 1)
-    ∷ estimates (alone 3 0 1 1 2 0) 0 ∼ is 0
+    ∷ estimates e5000 4999 ∼ is 4999
+    ∷ reports e5000 7501 ∼ says (refused 7)
+    ∷ estimates e5312 0 ∼ is 4648
+    ∷ reports e5312 0 ∼ says (shrunk 1)
+    ∷ estimates e0 0 ∼ is 0
     ∷ []
 
 pub tableP : List Row
@@ -132,3 +152,13 @@ tableP = intervals ++ mirroredOrder ++ pairs ++ roundTheEnd ++ meters
 pub table-P : map (λ (r : Row). r .given) tableP ≡ map (λ (r : Row). r .sheet) tableP
 unfolding tableP
 table-P = refl
+
+-- And what it writes down is good, as a schedule that is given to a call.
+pub table-P-good : Good oneLive × Good e5000 × Good e5312 × Good e0
+unfolding oneLive e5000 e5312 e0 sound
+table-P-good = (
+  scheduled-good (one 2 1 2 2 2 12500) refl refl,
+  scheduled-good (one 3 0 1 1 2 5000) refl refl,
+  scheduled-good (one 3 0 2 1 2 5312) refl refl,
+  scheduled-good (one 3 0 1 1 2 0) refl refl,
+)

@@ -1,5 +1,5 @@
 -- What the Bluetooth Core Specification (version 5.4) says, as far as it is used here.
-use Prim.Native.Nat.{ℕ, _*_, _≤_}
+use Prim.Native.Nat.{ℕ, _*_, _^_, _≤_}
 use mathlib.Core.Bool.{Bool, _&&_}
 use mathlib.Core.Path.{_≡_}
 use lib.Dec.{leb}
@@ -24,12 +24,21 @@ pub record Subrating : Type 0 where
   pub baseEvent : ℕ
   pub continuation : ℕ
 
+-- Subrated events are connSubrateFactor base intervals apart: so many units.
+abbrev pub subratedInterval : Subrating → ℕ
+subratedInterval r = r .factor * baseInterval
+
+-- The connection event counter has 16 bits: it wraps here. Below, counters run over all integers.
+abbrev pub eventCounter : ℕ
+eventCounter = 2 ^ 16
+
 -- A connection event is a subrated event exactly if its counter less connSubrateBaseEvent is a multiple of
--- connSubrateFactor. Counters run over all integers.
+-- connSubrateFactor.
 abbrev pub Subrated : Subrating → ℤ → Type 0
 Subrated r event = (q : ℤ) × (event -ℤ pos (r .baseEvent) ≡ q *ℤ pos (r .factor))
 
--- An event is used exactly if it is a subrated event, or one of the connContinuationNumber continuation events that
--- follow one: the event j before it is a subrated one, with j at most connContinuationNumber.
-abbrev pub Used : Subrating → ℤ → Type 0
-Used r event = (j : ℕ) × (j ≤ r .continuation) × Subrated r (event -ℤ pos j)
+-- An event is reserved exactly if it is a subrated event, or one of the connContinuationNumber events after one: the event j
+-- before it is a subrated one, with j at most connContinuationNumber. Core may use those after a packet with data; here all of
+-- them are kept for the connection.
+abbrev pub Reserved : Subrating → ℤ → Type 0
+Reserved r event = (j : ℕ) × (j ≤ r .continuation) × Subrated r (event -ℤ pos j)
