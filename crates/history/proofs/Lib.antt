@@ -1,12 +1,11 @@
 -- The demands, proved of the rule sheet's step and of every run of the code.
 pub mod Following
-pub mod RoomTemp
--- pub mod Refusing
+pub mod Refusing
 pub mod Meaning
 pub mod Counting
 pub mod Effects
 pub mod Lifetimes
--- pub mod DemandsMet
+pub mod DemandsMet
 pub mod ShutOut
 pub mod Saying
 pub mod Unique

@@ -20,8 +20,7 @@ use Rattle.rules.proofs.EndlessTime.{belongs-reserved}
 use Rattle.rules.proofs.SoundLaws.{Numbers}
 use Rattle.rules.proofs.ScheduleLaws.{good-sound}
 use Rattle.rules.proofs.AdmitLaws.{admit-cases, k-largest}
-use Rattle.rules.proofs.RoomLaws.{no-room-exactly}
-use Rattle.history.proofs.RoomTemp.{room-exactly}
+use Rattle.rules.proofs.RoomLaws.{no-room-exactly, room-exactly}
 use Rattle.rules.proofs.SaveLaws.{save-whole}
 use Rattle.rules.proofs.ImageLaws.{load-exactly, load-saves}
 use Rattle.history.specs.Calls.{Admit, Save, Load, Lent, Result, ruledCall, ruled}

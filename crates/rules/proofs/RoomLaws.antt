@@ -11,13 +11,13 @@ use Rattle.rules.specs.Core.{isInterval}
 use Rattle.rules.specs.Ownership.{taken}
 use Rattle.rules.specs.Mirror.{mirrored}
 use Rattle.rules.specs.Good.{Good}
-use Rattle.rules.specs.Answers.{refused}
+use Rattle.rules.specs.Answers.{Outcome, refused, refusing, ok}
 use Rattle.rules.specs.Handles.{isLive}
 use Rattle.rules.specs.Admit.{kOf, shareWrong, isOpen, firstOpen, noOpenAnchor, admitChecks, anchorFor, admitDone, admit}
 use Rattle.rules.proofs.BoolLaws.{is-false}
-use Rattle.rules.proofs.RefusalLaws.{FirstRefusal, refusing-exactly}
+use Rattle.rules.proofs.RefusalLaws.{FirstRefusal, refusing-exactly, decided-passed}
 use Rattle.rules.proofs.MirrorLaws.{mirror-mirror}
-use Rattle.rules.proofs.AdmitLaws.{RunFreeEver, k-small, open-ever, none-open, open-none, Admissible, anchor-given, first-open}
+use Rattle.rules.proofs.AdmitLaws.{RunFreeEver, k-small, open-ever, none-open, open-none, Admissible, admit-cases, anchor-given, anchor-small, anchor-free, first-open}
 
 -- The room check is reached, and no anchor below F has its whole run free in endless time.
 pub record NoRoom (s : Schedule) (h i f c : ℕ) : Type 0 where
@@ -71,6 +71,30 @@ module _ (s : Schedule) (good : Good s) (h i f c : ℕ) where
       from : NoRoom s h i f c → FirstRefusal (admitChecks s h i f c) 6
       from n =
           inr (le-ltb 63 h (n .handle), inr (n .unused, inr (ap not (n .interval), inr (n .share, inl (ap noOpenAnchor (none-shut (n .shut)), refl)))))
+
+-- Where the other checks pass, it is accepted exactly if some anchor has its whole run free.
+module _ (s : Schedule) (good : Good s) (h i f c : ℕ) (handle : h ≤ 63) (unused : isLive s h ≡ false) (interval : isInterval i ≡ true)
+    (share : shareWrong f c (2 ^ kOf i) ≡ false) where
+  abbrev Accepted : Outcome → Type 0
+  Accepted o = (F : ℕ) × (A : ℕ) × (L : ℕ) × (o .answer ≡ ok F A L)
+
+  placed : (o : Option ℕ) → firstOpen (taken (s .connections)) (kOf i) f ≡ o → ((A : ℕ) × (A < 2 ^ kOf i) × RunFreeEver (s .connections) (kOf i) f A) → Accepted (admit s h i f c)
+  unfolding admit admitChecks admitDone
+  placed none e w = absurd (shut-none s good h i f c e (w .0) (w .1) (w .2))
+  placed (some p) e w =
+      let done =
+      decided-passed (admitChecks s h i f c) (refusing s) (admitDone s h (kOf i) f c)
+      (le-ltb 63 h handle, (unused, (ap not interval, (share, (ap noOpenAnchor e, tt))))) in
+      (2 ^ kOf i, anchorFor s (kOf i) f, f, ap (λ (o : Outcome). o .answer) done)
+
+  pub room-exactly : Accepted (admit s h i f c) ↔ ((A : ℕ) × (A < 2 ^ kOf i) × RunFreeEver (s .connections) (kOf i) f A)
+  unfolding admitDone
+  room-exactly = (
+    admit-cases s h i f c (λ o. Accepted o → (A : ℕ) × (A < 2 ^ kOf i) × RunFreeEver (s .connections) (kOf i) f A)
+        (λ n w. let e = w .3 in let z : _≡_ {A = ℕ} 0 1 = cc in absurd (omega arith))
+        (λ a w. (anchorFor s (kOf i) f, anchor-small s good h i f c a, anchor-free s good h i f c a)),
+    placed (firstOpen (taken (s .connections)) (kOf i) f) refl,
+  )
 
 -- "the first anchor whose whole run is free is taken": none with a lower node number 2^k + mirrored A has its run free.
 pub anchor-first : (s : Schedule) → Good s → (h i f c : ℕ) → Admissible s h i f c

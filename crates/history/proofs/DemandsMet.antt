@@ -1,0 +1,72 @@
+-- The customer's demands are met by the rule sheet's step, and by every run of the code.
+use Rattle.rules.specs.Handles.{connection}
+use Rattle.rules.proofs.SoundLaws.{Sound}
+use Rattle.rules.proofs.ScheduleLaws.{good-sound}
+use Rattle.history.specs.Calls.{ruled}
+use Rattle.history.specs.Runs.{Run, more, now, followed, System, By}
+use Rattle.history.specs.Demands.{Demand1, Demand2, Demand3}
+use Rattle.history.specs.Code.{Coded, CodeAsDemanded}
+use Rattle.history.proofs.Following.{now-after, result-after, now-good, coded-ruled}
+use Rattle.history.proofs.Refusing.{refusals}
+use Rattle.history.proofs.Meaning.{meanings}
+use Rattle.history.proofs.Counting.{counted-run, near-run}
+use Rattle.history.proofs.Lifetimes.{steady, lives, bounded}
+
+-- What soundness means, after any run.
+soundly : (run : Run) → By ruled run → Sound (now run .connections)
+soundly run by = good-sound (now run) (now-good run by)
+
+demand3-ruled : Demand3 (By ruled)
+demand3-ruled =
+    record {
+      counted = λ run x by live. counted-run (connection (now run) x) live (soundly run by .numbers x live);
+      near = λ run x by live. near-run (connection (now run) x) live (soundly run by .numbers x live);
+      apart = λ run x y b by. soundly run by .apart-ever b x y;
+      bounded = bounded;
+      steady = steady;
+      lives = lives;
+    }
+
+-- What holds of every run of one system holds of the runs of another that are among them.
+module _ (S T : System) (among : (run : Run) → S run → T run) where
+  demand1-among : Demand1 T → Demand1 S
+  demand1-among d run m n s = d run m n (among (more run m) s)
+
+  demand2-among : Demand2 T → Demand2 S
+  demand2-among d =
+      record {
+        intervals = λ run m x i f c F A L s. d .intervals run m x i f c F A L (among (more run m) s);
+        events = λ run x b s. d .events run x b (among run s);
+        results = λ run m s. d .results run m (among (more run m) s);
+        connections = λ run x s. d .connections run x (among run s);
+        tree = λ run s. d .tree run (among run s);
+        room = λ run m x i f c s. d .room run m x i f c (among (more run m) s);
+        restore = λ run m bytes s. d .restore run m bytes (among (more run m) s);
+        same = λ run m save bytes n s. d .same run m save bytes n (among (more (more run m) save) s);
+      }
+
+  demand3-among : Demand3 T → Demand3 S
+  demand3-among d =
+      record {
+        counted = λ run x s. d .counted run x (among run s);
+        near = λ run x s. d .near run x (among run s);
+        apart = λ run x y b s. d .apart run x y b (among run s);
+        bounded = λ run x f c s. d .bounded run x f c (among run s);
+        steady = λ run between x s. d .steady run between x (among (followed run between) s);
+        lives = λ run x s. d .lives run x (among run s);
+      }
+
+-- The theorem, of every run of the code.
+pub code-as-demanded : CodeAsDemanded
+code-as-demanded =
+    record {
+      schedules = λ run c. now-after run (coded-ruled run c);
+      results = λ run m c. result-after run m (coded-ruled (more run m) c);
+      demand1 = demand1-among Coded (By ruled) coded-ruled refusals;
+      demand2 = demand2-among Coded (By ruled) coded-ruled meanings;
+      demand3 = demand3-among Coded (By ruled) coded-ruled demand3-ruled;
+    }
+
+-- And of the rule sheet's step: no demand is empty of what it asks.
+pub ruled-as-demanded : Demand1 (By ruled) × Demand2 (By ruled) × Demand3 (By ruled)
+ruled-as-demanded = (refusals, meanings, demand3-ruled)

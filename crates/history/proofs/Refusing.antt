@@ -1,0 +1,59 @@
+-- Demand 1: a refusal has the number of a named refusal, and leaves the schedule and what was lent.
+use mathlib.Core.Path.{_≡_, refl, sym, ap, _∙_}
+use Prim.Native.Nat.{ℕ}
+use native.Mathlib.Omega.{arith}
+use mathlib.Core.List.{List}
+use mathlib.Core.Option.{Option, none, some}
+use Rattle.rules.specs.declared.Schedule.{Schedule}
+use Rattle.rules.specs.Handles.{connection}
+use Rattle.rules.specs.Ownership.{handles, owns}
+use Rattle.rules.specs.Below.{least}
+use Rattle.rules.specs.Refusals.{number}
+use Rattle.rules.specs.Answers.{Answer, Outcome, refused, slots}
+use Rattle.rules.specs.Owner.{ownerOr, ownerOf}
+use Rattle.rules.specs.Anchor.{slotsToAnchor, anchorChecks, anchor}
+use Rattle.rules.specs.Save.{saveChecks, saveDone, save}
+use Rattle.rules.proofs.RefusalLaws.{decided-cases, refused-same}
+use Rattle.rules.proofs.CallLaws.{InTable, Tabled, Leaves, tabled, refusal-in-table, refusal-keeps-schedule}
+use Rattle.history.specs.Calls.{Call, Admit, Drop, Report, Owner, Anchor, Save, Load, Lent, Result, beside, ruledCall, ruled}
+use Rattle.history.specs.Runs.{now, By}
+use Rattle.history.specs.Demands.{Demand1}
+
+-- What a refusal leaves.
+abbrev Left : Schedule → Lent → Result → ℕ → Type 0
+Left s lent t n = InTable n × (t .schedule ≡ s) × (t .lent ≡ lent)
+
+-- ---- of a question
+owner-tabled : (o : Option ℕ) → Tabled (ownerOr o)
+owner-tabled none n e = let z : _≡_ {A = ℕ} 0 1 = cc in absurd (omega arith)
+owner-tabled (some x) n e = let z : _≡_ {A = ℕ} 0 1 = cc in absurd (omega arith)
+
+-- ---- of a save
+save-left : (s : Schedule) (buffer : List ℕ) (n : ℕ) → save s buffer .answer ≡ refused n → InTable n × (save s buffer .buffer ≡ buffer)
+unfolding save saveDone
+save-left s buffer n =
+    decided-cases (λ w. w .answer ≡ refused n → InTable n × (w .buffer ≡ buffer)) (saveChecks s buffer) (λ m. record { answer = refused m; buffer = buffer })
+    (saveDone s buffer)
+    (λ why e. ((why, sym (refused-same e)), refl))
+    (λ p e. let z : _≡_ {A = ℕ} 0 1 = cc in absurd (omega arith))
+
+-- ---- of any call
+outcome-left : (s : Schedule) (lent : Lent) {o : Outcome} → Leaves s o → (n : ℕ) → o .answer ≡ refused n → Left s lent (beside lent o) n
+outcome-left s lent l n e = (refusal-in-table s l n e, refusal-keeps-schedule s l n e, refl)
+
+call-left : (s : Schedule) (call : Call) (lent : Lent) (n : ℕ) → ruledCall s call lent .answer ≡ refused n → Left s lent (ruledCall s call lent) n
+unfolding ruledCall ownerOf anchor
+call-left s (Admit x i f c) lent n e = outcome-left s lent (Leaves.admits x i f c) n e
+call-left s (Drop x) lent n e = outcome-left s lent (Leaves.drops x) n e
+call-left s (Report x sample) lent n e = outcome-left s lent (Leaves.reports x sample) n e
+call-left s (Owner b) lent n e = (owner-tabled (least handles (λ x. owns (connection s x) b)) n e, refl, refl)
+call-left s (Anchor x b) lent n e =
+    (tabled (anchorChecks s x) (slots (slotsToAnchor (connection s x) b)) (λ m q. let z : _≡_ {A = ℕ} 0 1 = cc in absurd (omega arith)) n e, refl, refl)
+call-left s Save lent n e = let w = save-left s (lent .buffer) n e in (w .0, refl, ap (λ (b : List ℕ). record { buffer = b }) (w .1))
+call-left s (Load bytes) lent n e = outcome-left s lent (Leaves.loads (bytes .list) (bytes .small)) n e
+
+pub refusals : Demand1 (By ruled)
+refusals run m n by e =
+    let q = by .1 in
+    let w = call-left (now run) (m .request .call) (m .request .lent) n (sym (ap (λ (t : Result). t .answer) q) ∙ e) in
+    record { inTable = w .0; schedule = ap (λ (t : Result). t .schedule) q ∙ w .1; lent = ap (λ (t : Result). t .lent) q ∙ w .2 }
