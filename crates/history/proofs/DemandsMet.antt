@@ -7,6 +7,7 @@ use Rattle.history.specs.Runs.{Run, more, now, followed, System, By}
 use Rattle.history.specs.Demands.{Demand1, Demand2, Demand3}
 use Rattle.history.specs.Code.{Coded, CodeAsDemanded}
 use Rattle.history.proofs.Following.{now-after, result-after, now-good, coded-ruled}
+use Rattle.history.proofs.Taking.{takes-by, takes-coded}
 use Rattle.history.proofs.Refusing.{refusals}
 use Rattle.history.proofs.Meaning.{meanings}
 use Rattle.history.proofs.Counting.{counted-run, near-run}
@@ -29,9 +30,6 @@ demand3-ruled =
 
 -- What holds of every run of one system holds of the runs of another that are among them.
 module _ (S T : System) (among : (run : Run) → S run → T run) where
-  demand1-among : Demand1 T → Demand1 S
-  demand1-among d run m n s = d run m n (among (more run m) s)
-
   demand2-among : Demand2 T → Demand2 S
   demand2-among d =
       record {
@@ -62,11 +60,11 @@ code-as-demanded =
     record {
       schedules = λ run c. now-after run (coded-ruled run c);
       results = λ run m c. result-after run m (coded-ruled (more run m) c);
-      demand1 = demand1-among Coded (By ruled) coded-ruled refusals;
+      demand1 = record { takes = takes-coded; refusals = λ run m n c. refusals run m n (coded-ruled (more run m) c) };
       demand2 = demand2-among Coded (By ruled) coded-ruled meanings;
       demand3 = demand3-among Coded (By ruled) coded-ruled demand3-ruled;
     }
 
 -- And of the rule sheet's step: no demand is empty of what it asks.
 pub ruled-as-demanded : Demand1 (By ruled) × Demand2 (By ruled) × Demand3 (By ruled)
-ruled-as-demanded = (refusals, meanings, demand3-ruled)
+ruled-as-demanded = (record { takes = takes-by ruled; refusals = refusals }, meanings, demand3-ruled)

@@ -1,5 +1,6 @@
 -- The demands, proved of the rule sheet's step and of every run of the code.
 pub mod Following
+pub mod Taking
 pub mod Refusing
 pub mod Meaning
 pub mod Counting

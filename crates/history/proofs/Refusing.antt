@@ -16,8 +16,8 @@ use Rattle.rules.specs.Save.{saveChecks, saveDone, save}
 use Rattle.rules.proofs.RefusalLaws.{decided-cases, refused-same}
 use Rattle.rules.proofs.CallLaws.{InTable, Tabled, Leaves, tabled, refusal-in-table, refusal-keeps-schedule}
 use Rattle.history.specs.Calls.{Call, Admit, Drop, Report, Owner, Anchor, Save, Load, Lent, Result, beside, ruledCall, ruled}
-use Rattle.history.specs.Runs.{now, By}
-use Rattle.history.specs.Demands.{Demand1}
+use Rattle.history.specs.Runs.{Made, Run, more, now, By}
+use Rattle.history.specs.Demands.{Refusal}
 
 -- What a refusal leaves.
 abbrev Left : Schedule → Lent → Result → ℕ → Type 0
@@ -52,7 +52,7 @@ call-left s (Anchor x b) lent n e =
 call-left s Save lent n e = let w = save-left s (lent .buffer) n e in (w .0, refl, ap (λ (b : List ℕ). record { buffer = b }) (w .1))
 call-left s (Load bytes) lent n e = outcome-left s lent (Leaves.loads (bytes .list) (bytes .small)) n e
 
-pub refusals : Demand1 (By ruled)
+pub refusals : (run : Run) (m : Made) (n : ℕ) → By ruled (more run m) → m .result .answer ≡ refused n → Refusal run m n
 refusals run m n by e =
     let q = by .1 in
     let w = call-left (now run) (m .request .call) (m .request .lent) n (sym (ap (λ (t : Result). t .answer) q) ∙ e) in

@@ -20,8 +20,8 @@ use Rattle.rules.specs.Handles.{connection, aboveHandles, isLive}
 use Rattle.rules.specs.Admit.{kOf, intervalOutside, shareWrong}
 use Rattle.rules.specs.Image.{IsImage}
 use Rattle.rules.specs.Answers.{Answer, refused, ok, saved, loaded}
-use Rattle.history.specs.Calls.{Bytes, Save, Result, ruled}
-use Rattle.history.specs.Runs.{after, Made, Run, more, now, historyOf, followed, System}
+use Rattle.history.specs.Calls.{Bytes, Save, Request, Result, ruled}
+use Rattle.history.specs.Runs.{Start, after, Made, Run, begun, more, now, historyOf, followed, System}
 use Rattle.history.specs.Moments.{AdmissionOf, Placed, RestoreOf, Lasts, Unreported, Alive}
 
 -- Block b belongs to the live connection of handle x: what all that follows says of blocks goes through this.
@@ -29,15 +29,20 @@ abbrev pub has : Schedule → ℕ → ℕ → Bool
 has s x b = owns (connection s x) b
 
 -- ---- demand 1
--- "Every call takes all numbers and all bytes, and ends": a run goes on with any request. "A call that cannot be met returns one number
--- from the rule sheet's table, and neither the schedule nor a lent buffer has changed."
+-- "Every call takes all numbers and all bytes, and ends": there is a start, and whatever was made before, each request has a result.
+pub record Takes (S : System) : Type 0 where
+  pub begins : (start : Start) → (s : Schedule) × S (begun start s)
+  pub goesOn : (run : Run) → S run → (r : Request) → (t : Result) × S (more run (record { request = r; result = t }))
+
+-- "A call that cannot be met returns one number from the rule sheet's table, and neither the schedule nor a lent buffer has changed."
 pub record Refusal (run : Run) (m : Made) (n : ℕ) : Type 0 where
   pub inTable : (why : Named) × (n ≡ number why)
   pub schedule : m .result .schedule ≡ now run
   pub lent : m .result .lent ≡ m .request .lent
 
-abbrev pub Demand1 : System → Type 0
-Demand1 S = (run : Run) (m : Made) (n : ℕ) → S (more run m) → m .result .answer ≡ refused n → Refusal run m n
+pub record Demand1 (S : System) : Type 0 where
+  pub takes : Takes S
+  pub refusals : (run : Run) (m : Made) (n : ℕ) → S (more run m) → m .result .answer ≡ refused n → Refusal run m n
 
 -- ---- demand 2
 -- "Intervals and subrated events mean what the Bluetooth Core Specification says": an accepted interval is one, and F blocks are the

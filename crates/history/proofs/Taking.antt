@@ -1,0 +1,124 @@
+-- Demand 1: each request has a result. Of the code: for every input some value of each call's type meets the call's promise.
+use mathlib.Core.Path.{_≡_, refl, sym, ap, _∙_}
+use mathlib.Core.List.{List}
+use mathlib.Core.Option.{Option, none, some}
+use Prim.Native.Nat.{ℕ, _^_}
+use Rattle.rules.specs.declared.Refusal.{Refusal}
+use Rattle.rules.specs.declared.Schedule.{Schedule}
+use Rattle.rules.specs.declared.Connection.{Connection}
+use Rattle.rules.specs.declared.Admission.{Admission}
+use Rattle.rules.specs.declared.Admission.the-variants.{Placed, Refused as AdmissionRefused}
+use Rattle.rules.specs.declared.Dropping.the-variants.{Done, Refused as DroppingRefused}
+use Rattle.rules.specs.declared.Reporting.{Reporting}
+use Rattle.rules.specs.declared.Reporting.the-variants.{Kept, Grown, Shrunk, Tight, Refused as ReportingRefused}
+use Rattle.rules.specs.declared.Ownership.{Ownership}
+use Rattle.rules.specs.declared.Ownership.the-variants.{Handle, Idle}
+use Rattle.rules.specs.declared.Distance.the-variants.{Slots, Refused as DistanceRefused}
+use Rattle.rules.specs.declared.Saving.{Saving}
+use Rattle.rules.specs.declared.Saving.the-variants.{Size, Refused as SavingRefused}
+use Rattle.rules.specs.declared.Loading.the-variants.{Count, Refused as LoadingRefused}
+use Rattle.rules.specs.Refusals.{Check, number, decided}
+use Rattle.rules.specs.Answers.{Answer, Outcome, refused, refusing, slots, ofAdmission, ofDropping, ofReporting, ofOwnership, ofDistance, ofSaving, ofLoading}
+use Rattle.rules.specs.Handles.{connection}
+use Rattle.rules.specs.Ownership.{handles, owns, taken}
+use Rattle.rules.specs.Below.{least}
+use Rattle.rules.specs.Good.{Good}
+use Rattle.rules.specs.Admit.{kOf, anchorFor, admitChecks, admitDone, admit}
+use Rattle.rules.specs.Drop.{dropChecks, dropDone, drop}
+use Rattle.rules.specs.Meter.{change}
+use Rattle.rules.specs.Report.{reportAnswer, reportChecks, reportDone, report}
+use Rattle.rules.specs.Owner.{ownerOr, ownerOf}
+use Rattle.rules.specs.Anchor.{slotsToAnchor, anchorChecks, anchor}
+use Rattle.rules.specs.Image.{image}
+use Rattle.rules.specs.Save.{Written, saveChecks, saveDone, save}
+use Rattle.rules.specs.Load.{countIn, piecesOf, loadChecks, loadDone, load}
+use Rattle.rules.proofs.RefusalLaws.{decided-cases, decided-map}
+use Rattle.rules.proofs.MeterLaws.{change-cases}
+use Rattle.rules.proofs.CallLaws.{admits, drops, reports, loads, call-good}
+use Rattle.rules.proofs.NotEmpty.{fresh-is-good}
+use Rattle.history.specs.Calls.{Call, Admit, Drop, Report, Owner, Anchor, Save, Load, Lent, Request, Result}
+use Rattle.history.specs.Runs.{Start, Fresh, startOf, Run, begun, more, now, StepFunction, By}
+use Rattle.history.specs.Demands.{Takes}
+use Rattle.history.specs.Code.{StartsAs, Meets, Coded}
+use Rattle.history.proofs.Following.{coded-ruled, now-good}
+
+-- ---- a step function
+pub takes-by : (step : StepFunction) → Takes (By step)
+takes-by step = record { begins = λ start. (startOf start, refl); goesOn = λ run by r. (step (now run) r, (by, refl)) }
+
+-- ---- the code
+-- Some value of an answer's type stands for what is decided: for each named refusal, and for what is done.
+module _ {E : Type 0} (of : E → Answer) (no : Refusal → E) (names : (why : Refusal) → of (no why) ≡ refused (number why)) where
+  abbrev Stands : Answer → Type 0
+  Stands a = (e : E) × (of e ≡ a)
+
+  stands : (cs : List Check) (done : Answer) → Stands done → Stands (decided cs refused done)
+  stands cs done w = decided-cases Stands cs refused done (λ why. (no why, names why)) (λ p. w)
+
+  stands-outcome : (cs : List Check) (s : Schedule) (done : Outcome) → Stands (done .answer) → Stands (decided cs (refusing s) done .answer)
+  stands-outcome cs s done w =
+      let e = decided-map (λ (o : Outcome). o .answer) cs (refusing s) done in
+      let v = stands cs (done .answer) w in
+      (v .0, v .1 ∙ sym e)
+
+-- What stands for an outcome.
+abbrev whole : Outcome → Answer → Outcome
+whole o a = record { answer = a; schedule = o .schedule }
+
+reporting : (f : ℕ → Bool) (c : Connection) (sample : ℕ) → (e : Reporting) × (ofReporting e ≡ reportAnswer f c sample)
+unfolding reportAnswer
+reporting f c sample =
+    change-cases _ _ _ (λ a. (e : Reporting) × (ofReporting e ≡ a)) (λ q. (Kept _, refl)) (λ l. (Shrunk _, refl)) (λ l q. (Grown _, refl)) (λ l q. (Tight _, refl))
+
+owning : (o : Option ℕ) → (e : Ownership) × (ofOwnership e ≡ ownerOr o)
+owning none = (Idle, refl)
+owning (some h) = (Handle h, refl)
+
+saving : (s : Schedule) (buffer : List ℕ) → (e : Saving) × (ofSaving e ≡ save s buffer .answer)
+unfolding save saveDone
+saving s buffer =
+    decided-cases (λ w. (e : Saving) × (ofSaving e ≡ w .answer)) (saveChecks s buffer) (λ n. record { answer = refused n; buffer = buffer }) (saveDone s buffer)
+    (λ why. (SavingRefused why, refl)) (λ p. (Size _, refl))
+
+-- So each call has a result that meets its promise.
+meets-some : (s : Schedule) → Good s → (call : Call) (lent : Lent) → (t : Result) × Meets s call lent t
+unfolding admit admitDone drop dropDone report reportDone ownerOf anchor load loadDone
+meets-some s good (Admit h i f c) lent =
+    let w = stands-outcome ofAdmission AdmissionRefused (λ why. refl) (admitChecks s h i f c) s (admitDone s h (kOf i) f c) (Placed _ _ _, refl) in
+    let o = admit s h i f c in
+    (_, (record { answer = w .0; schedule = o .schedule }, record { is = ap (whole o) (w .1); good = call-good s good (admits h i f c) }, refl))
+meets-some s good (Drop h) lent =
+    let w = stands-outcome ofDropping DroppingRefused (λ why. refl) (dropChecks s h) s (dropDone s h) (Done, refl) in
+    let o = drop s h in
+    (_, (record { answer = w .0; schedule = o .schedule }, record { is = ap (whole o) (w .1); good = call-good s good (drops h) }, refl))
+meets-some s good (Report h sample) lent =
+    let w =
+    stands-outcome ofReporting ReportingRefused (λ why. refl) (reportChecks s h sample) s (reportDone s h sample)
+    (reporting (taken (s .connections)) (connection s h) sample) in
+    let o = report s h sample in
+    (_, (record { answer = w .0; schedule = o .schedule }, record { is = ap (whole o) (w .1); good = call-good s good (reports h sample) }, refl))
+meets-some s good (Owner b) lent = let w = owning (least handles (λ h. owns (connection s h) b)) in (_, (w .0, w .1, refl))
+meets-some s good (Anchor h b) lent =
+    let w = stands ofDistance DistanceRefused (λ why. refl) (anchorChecks s h) (slots (slotsToAnchor (connection s h) b)) (Slots _, refl) in
+    (_, (w .0, w .1, refl))
+meets-some s good Save lent =
+    let w = saving s (lent .buffer) in
+    let v = save s (lent .buffer) in
+    (_, (w .0, v .buffer, ap (λ (a : Answer). record { answer = a; buffer = v .buffer }) (w .1), refl))
+meets-some s good (Load bytes) lent =
+    let w = stands-outcome ofLoading LoadingRefused (λ why. refl) (loadChecks (bytes .list)) s (loadDone (bytes .list)) (Count _, refl) in
+    let o = load s (bytes .list) in
+    (_, (record { answer = w .0; schedule = o .schedule }, record { is = ap (whole o) (w .1); good = call-good s good (loads (bytes .list) (bytes .small)) }, refl))
+
+starts-some : (start : Start) → (s : Schedule) × StartsAs start s
+unfolding startOf
+starts-some Fresh = (startOf Fresh, record { is = refl; good = fresh-is-good })
+
+pub takes-coded : Takes Coded
+takes-coded =
+    record {
+      begins = starts-some;
+      goesOn = λ run c r.
+          let w = meets-some (now run) (now-good run (coded-ruled run c)) (r .call) (r .lent) in
+          (w .0, (c, w .1));
+    }
