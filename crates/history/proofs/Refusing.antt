@@ -1,5 +1,5 @@
 -- Demand 1: a refusal has a number of the table, and leaves the schedule and the buffer.
-use mathlib.Core.Path.{_≡_, refl, subst}
+use mathlib.Core.Path.{_≡_, refl, sym}
 use Prim.Native.Nat.{ℕ}
 use native.Mathlib.Omega.{arith}
 use mathlib.Core.List.{List}
@@ -16,7 +16,7 @@ use Rattle.rules.specs.Anchor.{slotsToAnchor, anchorChecks, anchor}
 use Rattle.rules.specs.Program.{obey}
 use Rattle.rules.specs.Save.{saveChecks, saveDone, save}
 use Rattle.rules.proofs.BytesLaws.{AllBytes}
-use Rattle.rules.proofs.RefusalLaws.{decided-numbered, refused-same}
+use Rattle.rules.proofs.RefusalLaws.{decided-cases, refused-same}
 use Rattle.rules.proofs.CallLaws.{InTable, Tabled, Leaves, tabled, refusal-in-table, refusal-keeps-schedule}
 use Rattle.rules.proofs.ProgramLaws.{obey-refused}
 use Rattle.history.specs.declared.Call.{Call}
@@ -39,17 +39,16 @@ obey-tabled s (Drop x) = refusal-in-table s (Leaves.drops x)
 obey-tabled s (Report x sample) = refusal-in-table s (Leaves.reports x sample)
 obey-tabled s (Owner b) = owner-tabled (least handles (λ x. owns (connection s x) b))
 obey-tabled s (Anchor x b) =
-    tabled (anchorChecks s x) (slots (slotsToAnchor (connection s x) b)) ((omega arith, omega arith), ((omega arith, omega arith), tt)) (slots-tabled _)
+    tabled (anchorChecks s x) (slots (slotsToAnchor (connection s x) b)) (slots-tabled _)
 
 -- ---- of a save
 save-tabled : (s : Schedule) (buffer : List ℕ) (n : ℕ) → save s buffer .answer ≡ refused n → InTable n × (save s buffer .buffer ≡ buffer)
-unfolding save saveChecks saveDone
+unfolding save saveDone
 save-tabled s buffer n =
-    decided-numbered (λ w. w .answer ≡ refused n → InTable n × (w .buffer ≡ buffer)) InTable (saveChecks s buffer) (λ m. record { answer = refused m; buffer = buffer })
+    decided-cases (λ w. w .answer ≡ refused n → InTable n × (w .buffer ≡ buffer)) (saveChecks s buffer) (λ m. record { answer = refused m; buffer = buffer })
     (saveDone s buffer)
-    ((omega arith, omega arith), tt)
-    (λ m i e. (subst InTable (refused-same e) i, refl))
-    (λ e. let z : _≡_ {A = ℕ} 0 1 = cc in absurd (omega arith))
+    (λ why e. ((why, sym (refused-same e)), refl))
+    (λ p e. let z : _≡_ {A = ℕ} 0 1 = cc in absurd (omega arith))
 
 -- ---- of any call
 call-refused : (s : Schedule) (call : Call) (bytes buffer : List ℕ) → AllBytes bytes → (n : ℕ) → ruledCall s call bytes buffer .answer ≡ refused n

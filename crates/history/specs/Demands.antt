@@ -7,6 +7,7 @@ use mathlib.Core.List.{List, _∷_, _++_}
 use lib.IntN.{pos}
 use lib.ListN.{length, drop}
 use Rattle.rules.specs.declared.Schedule.{Schedule}
+use Rattle.rules.specs.declared.Refusal.{Refusal as Named}
 use Rattle.rules.specs.declared.Connection.{Connection}
 use Rattle.rules.specs.declared.Command.the-variants.{Admit}
 use Rattle.rules.specs.Time.{blockMicros}
@@ -16,6 +17,7 @@ use Rattle.rules.specs.Sound.{sound}
 use Rattle.rules.specs.Handles.{connection, isLive}
 use Rattle.rules.specs.Admit.{kOf, shareWrong}
 use Rattle.rules.specs.Image.{IsImage}
+use Rattle.rules.specs.Refusals.{number}
 use Rattle.rules.specs.Answers.{refused, ok, saved, loaded}
 use Rattle.history.specs.declared.Call.the-variants.{Command, Save, Load}
 use Rattle.history.specs.History.{Request, StepFunction, History, ruled, after, made}
@@ -25,7 +27,7 @@ use Rattle.history.specs.Moments.{Lasts, Unreported, Alive}
 -- "Every call takes all numbers and all bytes, and ends": so does every step function. "A call that cannot be met returns one number
 -- from the rule sheet's table, and neither the schedule nor a lent buffer has changed."
 pub record Refusal (h : History) (r : Request) (step : StepFunction) (n : ℕ) : Type 0 where
-  pub inTable : (1 ≤ n) × (n ≤ 12)
+  pub inTable : (why : Named) × (n ≡ number why)
   pub schedule : made step h r .schedule ≡ after step h
   pub buffer : made step h r .buffer ≡ r .buffer
 
