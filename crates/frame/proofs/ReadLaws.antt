@@ -6,6 +6,8 @@ use Prim.Native.Nat.{ℕ, _+_, _*_, _<_, _≤_}
 use native.Mathlib.Decide.{ℕ-discrete}
 use native.Mathlib.Omega.{arith}
 use lib.ListN.{length, take, drop}
+use Rattle.rules.specs.declared.Refusal.the-variants.{RecordsWrong}
+use Rattle.rules.specs.Refusals.{number}
 use Rattle.rules.specs.Bytes.{littleNumber}
 use Rattle.rules.specs.Steps.{gives, refuses}
 use Rattle.rules.specs.LoadSteps.{frameStep, FramedAt}
@@ -47,7 +49,7 @@ module _ (bytes : List ℕ) where
 
   module _ (small : AllBytes bytes) where
     -- Each reason to refuse.
-    pub wrong-first : (RecordAt bytes 0 1 2 → ⊥) → refuses 9 ≡ frameStep bytes
+    pub wrong-first : (RecordAt bytes 0 1 2 → ⊥) → refuses (number RecordsWrong) ≡ frameStep bytes
     wrong-first none = frame-wrong bytes small (λ n f. none (framed-first n f))
 
     -- n is what the bytes count.
@@ -55,24 +57,24 @@ module _ (bytes : List ℕ) where
       counted : (m : ℕ) → FramedAt bytes m → m ≡ n
       counted m f = sym (f .count) ∙ sym count
 
-      for-n : (FramedAt bytes n → ⊥) → refuses 9 ≡ frameStep bytes
+      for-n : (FramedAt bytes n → ⊥) → refuses (number RecordsWrong) ≡ frameStep bytes
       for-n none = frame-wrong bytes small (λ m f. none (subst (λ (x : ℕ). FramedAt bytes x) (counted m f) f))
 
-      pub wrong-count : 64 < n → refuses 9 ≡ frameStep bytes
+      pub wrong-count : 64 < n → refuses (number RecordsWrong) ≡ frameStep bytes
       wrong-count l = for-n (λ f. omega (arith, f .most))
 
       module _ (start : ℕ) (begun : start ≡ 6) where
-        pub wrong-connections : (ConnectionsAt bytes start n → ⊥) → refuses 9 ≡ frameStep bytes
+        pub wrong-connections : (ConnectionsAt bytes start n → ⊥) → refuses (number RecordsWrong) ≡ frameStep bytes
         wrong-connections none = for-n (λ f. rw begun at none (framed-each n f))
 
         module _ (end : ℕ) (ended : end ≡ start + 18 * n) where
           place : end ≡ 6 + 18 * n
           place = omega arith
 
-          pub wrong-last : (RecordAt bytes end 3 128 → ⊥) → refuses 9 ≡ frameStep bytes
+          pub wrong-last : (RecordAt bytes end 3 128 → ⊥) → refuses (number RecordsWrong) ≡ frameStep bytes
           wrong-last none = for-n (λ f. none (subst (λ (x : ℕ). RecordAt bytes x 3 128) (sym place) (framed-last n f)))
 
-          pub wrong-end : (end + 132 ≡ length bytes → ⊥) → refuses 9 ≡ frameStep bytes
+          pub wrong-end : (end + 132 ≡ length bytes → ⊥) → refuses (number RecordsWrong) ≡ frameStep bytes
           wrong-end none = for-n (λ f. none (omega (arith, f .long)))
 
           -- Every record is there, and nothing is left over.

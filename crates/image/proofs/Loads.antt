@@ -7,12 +7,14 @@ use native.Mathlib.Omega.{arith}
 use lib.ListN.{length, take, drop}
 use Rattle.rules.specs.declared.Connection.{Connection}
 use Rattle.rules.specs.declared.Schedule.{Schedule}
+use Rattle.rules.specs.declared.Refusal.the-variants.{RecordsWrong, NumbersUnsound, BlockOwnedTwice, TreeDiffers}
 use Rattle.rules.specs.declared.Frame.{Frame}
 use Rattle.rules.specs.declared.Frame.the-variants.{Counts, Wrong}
 use Rattle.rules.specs.declared.Loaded.{Loaded}
 use Rattle.rules.specs.declared.Restored.{Restored}
 use Rattle.rules.specs.Ownership.{taken}
 use Rattle.rules.specs.Good.{Good, treeFor, scheduleOf}
+use Rattle.rules.specs.Refusals.{number}
 use Rattle.rules.specs.Answers.{Outcome, refusing, loaded, ofLoaded}
 use Rattle.rules.specs.Bytes.{same}
 use Rattle.rules.specs.Load.{soundPieces, restored, load}
@@ -38,18 +40,18 @@ module _ (s : Schedule) (good : Good s) (bytes : List ℕ) (b : AllBytes bytes) 
   loads : (r : Loaded) → ofLoaded r ≡ load s bytes → Loads s bytes r
   loads r e = record { is = e; good = subst Good (sym (ap (λ (o : Outcome). o .schedule) e)) (load-good s good bytes b) }
 
-  pub unframed : (r : Loaded) → ofLoaded r ≡ refusing s 9 → (f : Frame) → f ≡ Wrong → ofFrame f ≡ frameStep bytes → Loads s bytes r
+  pub unframed : (r : Loaded) → ofLoaded r ≡ refusing s (number RecordsWrong) → (f : Frame) → f ≡ Wrong → ofFrame f ≡ frameStep bytes → Loads s bytes r
   unframed r e f q p = loads r (e ∙ load-9 s bytes (frame-refuses bytes (subst (λ (x : Frame). ofFrame x ≡ frameStep bytes) q p)))
 
   pub framed-at : (n : ℕ) (f : Frame) → f ≡ Counts n → ofFrame f ≡ frameStep bytes → FramedAt bytes n
   framed-at n f q p = frame-framed bytes n b (subst (λ (x : Frame). ofFrame x ≡ frameStep bytes) q p)
 
   module _ (n : ℕ) (f : FramedAt bytes n) where
-    pub unsound : (r : Loaded) → ofLoaded r ≡ refusing s 10 → soundPieces 0 (records bytes n) ≡ false → Loads s bytes r
+    pub unsound : (r : Loaded) → ofLoaded r ≡ refusing s (number NumbersUnsound) → soundPieces 0 (records bytes n) ≡ false → Loads s bytes r
     unsound r e p = loads r (e ∙ load-10 s bytes n (framed-right bytes n b f) p)
 
     module _ (p : soundPieces 0 (records bytes n) ≡ true) (x : Restored) (t : Restores (records bytes n) x) where
-      pub owned-twice : (r : Loaded) → ofLoaded r ≡ refusing s 11 → x .apart ≡ false → Loads s bytes r
+      pub owned-twice : (r : Loaded) → ofLoaded r ≡ refusing s (number BlockOwnedTwice) → x .apart ≡ false → Loads s bytes r
       owned-twice r e q = loads r (e ∙ load-11 s bytes n (framed-right bytes n b f) p (sym (t .says) ∙ q))
 
       module _ (q : x .apart ≡ true) where
@@ -66,7 +68,7 @@ module _ (s : Schedule) (good : Good s) (bytes : List ℕ) (b : AllBytes bytes) 
         compared : (v : Bool) → same (take 128 (drop (x .end + 4) bytes)) (x .schedule .tree .bytes) ≡ v → same (take 128 (drop (10 + 18 * n) bytes)) (treeFor (restored (records bytes n))) ≡ v
         compared v d = ap₂ (λ (j : ℕ) (tree : List ℕ). same (take 128 (drop j bytes)) tree) (sym tree-place) (sym tree-is) ∙ d
 
-        pub differs : (r : Loaded) → ofLoaded r ≡ refusing s 12 → same (take 128 (drop (x .end + 4) bytes)) (x .schedule .tree .bytes) ≡ false → Loads s bytes r
+        pub differs : (r : Loaded) → ofLoaded r ≡ refusing s (number TreeDiffers) → same (take 128 (drop (x .end + 4) bytes)) (x .schedule .tree .bytes) ≡ false → Loads s bytes r
         differs r e d = loads r (e ∙ load-12 s bytes n (framed-right bytes n b f) p (sym (t .says) ∙ q) (compared false d))
 
         pub accepted : (r : Loaded) → ofLoaded r ≡ record { answer = loaded n; schedule = x .schedule } → same (take 128 (drop (x .end + 4) bytes)) (x .schedule .tree .bytes) ≡ true → Loads s bytes r

@@ -8,10 +8,12 @@ use lib.ListN.{length, take, getD, set, length-take, length-append}
 use lib.Seq.{sets, take-suc}
 use Rattle.rules.specs.declared.Connection.{Connection}
 use Rattle.rules.specs.declared.Schedule.{Schedule}
+use Rattle.rules.specs.declared.Refusal.the-variants.{BufferShort}
 use Rattle.rules.specs.Ownership.{at}
 use Rattle.rules.specs.Bytes.{little}
 use Rattle.rules.specs.Image.{written, joined, countPiece, connectionPiece, connectionPieces, treePiece, pieces, image}
 use Rattle.rules.specs.Good.{Good}
+use Rattle.rules.specs.Refusals.{number}
 use Rattle.rules.specs.Answers.{refused, saved}
 use Rattle.rules.specs.Save.{Written, save}
 use Rattle.rules.proofs.PieceLaws.{joined-append}
@@ -102,7 +104,7 @@ module _ (s : Schedule) (good : Good s) (l : List ℕ) {n size : ℕ} (m : n ≡
   size-is : size ≡ length (image (s .connections))
   size-is = omega (arith, m, e, image-length (s .connections), connections-count 0 (s .connections))
 
-  pub too-short : length l < size → _≡_ {A = Written} (record { answer = refused 8; buffer = l }) (save s l)
+  pub too-short : length l < size → _≡_ {A = Written} (record { answer = refused (number BufferShort); buffer = l }) (save s l)
   too-short h = save-short s l (omega (arith, size-is))
 
   pub image-saved : size ≤ length l → {b c d f : List ℕ} {next : ℕ} → b ≡ sets l 0 (little 2 2 ++ little 2 1) → c ≡ sets b 4 (little 2 n)

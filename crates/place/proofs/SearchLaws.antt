@@ -11,9 +11,11 @@ use lib.Bits.{bitAnd, and-mask}
 use lib.Pow.{pow-pos, pow-mono, shl-exact}
 use lib.ListN.{length, getD, set, length-set}
 use lib.Seq.{getD-set-same, getD-set-other}
+use Rattle.rules.specs.declared.Refusal.the-variants.{NoOpenAnchor}
 use Rattle.rules.specs.Classes.{classTaken, free, runFree}
 use Rattle.rules.specs.Mirror.{mirrored}
 use Rattle.rules.specs.TreeBytes.{bitAt}
+use Rattle.rules.specs.Refusals.{number}
 use Rattle.rules.specs.Admit.{isOpen, firstOpen}
 use Rattle.rules.specs.Steps.{gives, refuses, placeStep}
 use Rattle.rules.proofs.BoolLaws.{is-false}
@@ -49,7 +51,7 @@ module _ (f : ℕ → Bool) (k n : ℕ) where
   found-at p l c b =
       rw (least-is (2 ^ k) (λ p. isOpen f k n (mirrored k p)) p l (every-of n _ (λ j h. ap not (c j h))) b)
 
-  pub found-none : ((q : ℕ) → q < 2 ^ k → isOpen f k n (mirrored k q) ≡ false) → refuses 6 ≡ placeStep f k n
+  pub found-none : ((q : ℕ) → q < 2 ^ k → isOpen f k n (mirrored k q) ≡ false) → refuses (number NoOpenAnchor) ≡ placeStep f k n
   unfolding placeStep firstOpen
   found-none b = rw (least-is-none (2 ^ k) (λ p. isOpen f k n (mirrored k p)) b)
 

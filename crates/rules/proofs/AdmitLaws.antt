@@ -21,6 +21,7 @@ use Rattle.rules.specs.Mirror.{mirrored}
 use Rattle.rules.specs.Sound.{sound}
 use Rattle.rules.specs.Good.{Good, FreeSlotsZero}
 use Rattle.rules.specs.Answers.{Outcome, refusing, ok}
+use Rattle.rules.specs.Refusals.{number}
 use Rattle.rules.specs.Handles.{isLive, connection}
 use Rattle.rules.specs.Admit.{kOf, shareWrong, isOpen, firstOpen, noOpenAnchor, newConnection, admitChecks, anchorFor, admitDone, admit}
 use Rattle.rules.proofs.BoolLaws.{both, is-false}
@@ -143,7 +144,7 @@ found (some p) e = (p, refl)
 pub admit-cases {ℓ} : (s : Schedule) (h i f c : ℕ) (P : Outcome → Type ℓ) → ((n : ℕ) → P (refusing s n)) → (Admissible s h i f c → P (admitDone s h (kOf i) f c)) → P (admit s h i f c)
 unfolding admit admitChecks
 admit-cases s h i f c P no′ yes′ =
-    decided-cases P (admitChecks s h i f c) (refusing s) (admitDone s h (kOf i) f c) no′
+    decided-cases P (admitChecks s h i f c) (refusing s) (admitDone s h (kOf i) f c) (λ why. no′ (number why))
     (λ p.
     yes′
     (record {

@@ -33,11 +33,14 @@ undone : {A B : Type 0} (f : A → B) (g : B → A) → ((a : A) → g (f a) ≡
 undone f g back {a} {b} e = sym (back a) ∙ ap g e ∙ back b
 
 -- ---- the refusals: twelve numbers for twelve cases
+-- The refusal with a number, by going through the others.
 refusalOf : ℕ → Refusal
 refusalOf n =
-    cond (eqb n 1) HandleAbove63 (cond (eqb n 2) HandleLive (cond (eqb n 3) HandleNotLive (cond (eqb n 4) IntervalOutside
-    (cond (eqb n 5) ShareWrong (cond (eqb n 6) NoOpenAnchor (cond (eqb n 7) SampleAboveRun (cond (eqb n 8) BufferShort
-    (cond (eqb n 9) RecordsWrong (cond (eqb n 10) NumbersUnsound (cond (eqb n 11) BlockOwnedTwice TreeDiffers))))))))))
+    let or : Refusal → Refusal → Refusal = λ r later. cond (eqb n (number r)) r later in
+    or HandleAbove63 (or HandleLive (or HandleNotLive
+    (or IntervalOutside (or ShareWrong (or NoOpenAnchor
+    (or SampleAboveRun (or BufferShort (or RecordsWrong
+    (or NumbersUnsound (or BlockOwnedTwice TreeDiffers))))))))))
 
 refusal-back : (r : Refusal) → refusalOf (number r) ≡ r
 unfolding refusalOf

@@ -1,22 +1,23 @@
 -- The laws of every call that answers with a schedule.
-use mathlib.Core.Path.{_≡_, refl, subst, subst⁻¹}
+use mathlib.Core.Path.{_≡_, refl, sym, subst⁻¹}
 use mathlib.Core.Bool.{Bool}
 use mathlib.Core.List.{List}
-use Prim.Native.Nat.{ℕ, _≤_}
+use Prim.Native.Nat.{ℕ}
 use native.Mathlib.Omega.{arith}
+use Rattle.rules.specs.declared.Refusal.{Refusal}
 use Rattle.rules.specs.declared.Schedule.{Schedule}
 use Rattle.rules.specs.declared.Connection.{Connection}
 use Rattle.rules.specs.Ownership.{taken}
 use Rattle.rules.specs.Handles.{connection}
 use Rattle.rules.specs.Good.{Good, FreeSlotsZero}
 use Rattle.rules.specs.Answers.{Answer, Outcome, refused, refusing}
-use Rattle.rules.specs.Refusals.{Check, decided}
+use Rattle.rules.specs.Refusals.{number, Check, decided}
 use Rattle.rules.specs.Admit.{kOf, admitChecks, admitDone, admit}
 use Rattle.rules.specs.Drop.{dropChecks, dropDone, drop}
 use Rattle.rules.specs.Meter.{moved, need, target}
 use Rattle.rules.specs.Report.{roomToGrow, reportAnswer, reportChecks, reportDone, report}
 use Rattle.rules.specs.Load.{loadChecks, loadDone, load}
-use Rattle.rules.proofs.RefusalLaws.{Numbered, decided-numbered, decided-map, refused-same, refusal-keeps}
+use Rattle.rules.proofs.RefusalLaws.{decided-cases, decided-map, refused-same, refusal-keeps}
 use Rattle.rules.proofs.BytesLaws.{AllBytes}
 use Rattle.rules.proofs.ImageLaws.{load-good, load-zero}
 use Rattle.rules.proofs.MeterLaws.{change-cases}
@@ -45,32 +46,32 @@ answered f c sample n =
     (λ l q e. let z : _≡_ {A = ℕ} 0 1 = cc in omega arith)
     (λ l q e. let z : _≡_ {A = ℕ} 0 1 = cc in omega arith)
 
--- "one number from the rule sheet's table"
+-- "one number from the rule sheet's table": that of a named refusal.
 abbrev pub InTable : ℕ → Type 0
-InTable n = (1 ≤ n) × (n ≤ 12)
+InTable n = (why : Refusal) × (n ≡ number why)
 
 -- What answers with a number of the table, where it refuses.
 abbrev pub Tabled : Answer → Type 0
 Tabled a = (n : ℕ) → a ≡ refused n → InTable n
 
--- Checks that have numbers of the table, before something that is no refusal.
-pub tabled : (cs : List Check) (done : Answer) → Numbered InTable cs → Tabled done → Tabled (decided cs refused done)
-tabled cs done q t = decided-numbered Tabled InTable cs refused done q (λ m i n e. subst InTable (refused-same e) i) t
+-- Any checks before something that is no refusal: each check gives a named refusal.
+pub tabled : (cs : List Check) (done : Answer) → Tabled done → Tabled (decided cs refused done)
+tabled cs done t = decided-cases Tabled cs refused done (λ why n e. (why, sym (refused-same e))) (λ p. t)
 
-tabled-outcome : (cs : List Check) (s : Schedule) (done : Outcome) → Numbered InTable cs → Tabled (done .answer) → Tabled (decided cs (refusing s) done .answer)
-tabled-outcome cs s done q t = subst⁻¹ Tabled (decided-map (λ (o : Outcome). o .answer) cs (refusing s) done) (tabled cs (done .answer) q t)
+tabled-outcome : (cs : List Check) (s : Schedule) (done : Outcome) → Tabled (done .answer) → Tabled (decided cs (refusing s) done .answer)
+tabled-outcome cs s done t = subst⁻¹ Tabled (decided-map (λ (o : Outcome). o .answer) cs (refusing s) done) (tabled cs (done .answer) t)
 
--- Every check has a number of the table, and what is done once they pass is no refusal.
+-- What is done once the checks pass is no refusal.
 pub refusal-in-table : (s : Schedule) {o : Outcome} → Leaves s o → Tabled (o .answer)
-unfolding admit admitChecks admitDone drop dropDone report reportDone load loadChecks loadDone
+unfolding admit admitDone drop dropDone report reportDone load loadDone
 refusal-in-table s (admits h i f c) =
-    tabled-outcome (admitChecks s h i f c) s (admitDone s h (kOf i) f c) ((omega arith, omega arith), ((omega arith, omega arith), ((omega arith, omega arith), ((omega arith, omega arith), ((omega arith, omega arith), tt))))) (λ n e. let z : _≡_ {A = ℕ} 0 1 = cc in absurd (omega arith))
+    tabled-outcome (admitChecks s h i f c) s (admitDone s h (kOf i) f c) (λ n e. let z : _≡_ {A = ℕ} 0 1 = cc in absurd (omega arith))
 refusal-in-table s (drops h) =
-    tabled-outcome (dropChecks s h) s (dropDone s h) ((omega arith, omega arith), ((omega arith, omega arith), tt)) (λ n e. let z : _≡_ {A = ℕ} 0 1 = cc in absurd (omega arith))
+    tabled-outcome (dropChecks s h) s (dropDone s h) (λ n e. let z : _≡_ {A = ℕ} 0 1 = cc in absurd (omega arith))
 refusal-in-table s (reports h sample) =
-    tabled-outcome (reportChecks s h sample) s (reportDone s h sample) ((omega arith, omega arith), ((omega arith, omega arith), ((omega arith, omega arith), tt))) (λ n e. absurd (answered (taken (s .connections)) (connection s h) sample n e))
+    tabled-outcome (reportChecks s h sample) s (reportDone s h sample) (λ n e. absurd (answered (taken (s .connections)) (connection s h) sample n e))
 refusal-in-table s (loads bytes b) =
-    tabled-outcome (loadChecks bytes) s (loadDone bytes) ((omega arith, omega arith), ((omega arith, omega arith), ((omega arith, omega arith), ((omega arith, omega arith), tt)))) (λ n e. let z : _≡_ {A = ℕ} 0 1 = cc in absurd (omega arith))
+    tabled-outcome (loadChecks bytes) s (loadDone bytes) (λ n e. let z : _≡_ {A = ℕ} 0 1 = cc in absurd (omega arith))
 
 -- "A refusal returns its number only; the schedule .. as .. before the call."
 pub refusal-keeps-schedule : (s : Schedule) {o : Outcome} → Leaves s o → (n : ℕ) → o .answer ≡ refused n → o .schedule ≡ s

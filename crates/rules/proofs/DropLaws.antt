@@ -8,12 +8,14 @@ use lib.Pow.{pow-mono}
 use lib.ListN.{set}
 use borrow.Author.Tests.{lt-ltb, le-ltb, ltb-false, not-false}
 use Rattle.rules.specs.declared.Schedule.{Schedule}
+use Rattle.rules.specs.declared.Refusal.the-variants.{HandleAbove63, HandleNotLive}
 use Rattle.rules.specs.Ownership.{nobody, owns, taken}
 use Rattle.rules.specs.Classes.{depth}
 use Rattle.rules.specs.Nodes.{covers}
 use Rattle.rules.specs.TreeBytes.{bitAt}
 use Rattle.rules.specs.Good.{Good, FreeSlotsZero, treeFor, scheduleOf}
 use Rattle.rules.specs.Answers.{Outcome, dropped, refusing}
+use Rattle.rules.specs.Refusals.{number}
 use Rattle.rules.specs.Handles.{isLive, connection}
 use Rattle.rules.specs.Drop.{dropChecks, dropDone, drop}
 use Rattle.rules.proofs.RefusalLaws.{decided-cases}
@@ -24,11 +26,11 @@ use Rattle.rules.proofs.TreeLaws.{tree-bit}
 
 -- ---- each exit
 module _ (s : Schedule) (h : ℕ) where
-  pub drop-1 : 63 < h → drop s h ≡ refusing s 1
+  pub drop-1 : 63 < h → drop s h ≡ refusing s (number HandleAbove63)
   unfolding drop
   drop-1 p = rw (lt-ltb 63 h p)
 
-  pub drop-3 : h ≤ 63 → isLive s h ≡ false → drop s h ≡ refusing s 3
+  pub drop-3 : h ≤ 63 → isLive s h ≡ false → drop s h ≡ refusing s (number HandleNotLive)
   unfolding drop
   drop-3 p q = rw (le-ltb 63 h p, q)
 
@@ -40,7 +42,7 @@ module _ (s : Schedule) (h : ℕ) where
 -- It is as before, or the handle, which was live, has become a free slot.
 pub drop-cases : (s : Schedule) (h : ℕ) (P : Outcome → Type 0) → ((n : ℕ) → P (refusing s n)) → (h ≤ 63 → isLive s h ≡ true → P (dropDone s h)) → P (drop s h)
 unfolding drop
-drop-cases s h P f g = decided-cases P (dropChecks s h) (refusing s) (dropDone s h) f (λ p. g (ltb-false 63 h (p .0)) (not-false (isLive s h) (p .1 .0)))
+drop-cases s h P f g = decided-cases P (dropChecks s h) (refusing s) (dropDone s h) (λ why. f (number why)) (λ p. g (ltb-false 63 h (p .0)) (not-false (isLive s h) (p .1 .0)))
 
 module _ (s : Schedule) (good : Good s) (h : ℕ) where
   -- A drop leaves a good schedule.

@@ -7,7 +7,9 @@ use native.Mathlib.Omega.{arith}
 use lib.ListN.{length, take, drop, replicate, length-append, length-take, length-drop, take-append-drop, drop-of-length-le}
 use lib.Seq.{take-at, take-add, drop-drop, drop-append-add}
 use borrow.Author.Tests.{not-false}
+use Rattle.rules.specs.declared.Refusal.the-variants.{RecordsWrong}
 use Rattle.rules.specs.Below.{tabulate}
+use Rattle.rules.specs.Refusals.{number}
 use Rattle.rules.specs.Bytes.{little, littleNumber, same}
 use Rattle.rules.specs.Image.{Piece, written, joined}
 use Rattle.rules.specs.Load.{piecesOf, countIn, shaped, recordsWrong, connectionsIn, treeIn}
@@ -269,13 +271,13 @@ pub frame-counts : (bytes : List ℕ) (n : ℕ) → AllBytes bytes → FramedAt 
 unfolding frameStep
 frame-counts bytes n h f =
     let s = framed-right bytes n h f in
-    sym (ap₂ (λ (b : Bool) (m : ℕ). cond b (refuses 9) (gives m)) (s .passes) (s .counted))
+    sym (ap₂ (λ (b : Bool) (m : ℕ). cond b (refuses (number RecordsWrong)) (gives m)) (s .passes) (s .counted))
 
 -- Bytes that are framed for no count are refused.
-pub frame-wrong : (bytes : List ℕ) → AllBytes bytes → ((n : ℕ) → FramedAt bytes n → ⊥) → refuses 9 ≡ frameStep bytes
+pub frame-wrong : (bytes : List ℕ) → AllBytes bytes → ((n : ℕ) → FramedAt bytes n → ⊥) → refuses (number RecordsWrong) ≡ frameStep bytes
 unfolding frameStep
 frame-wrong bytes h none = go (recordsWrong bytes (piecesOf bytes)) refl
   where
-    go : (v : Bool) → recordsWrong bytes (piecesOf bytes) ≡ v → refuses 9 ≡ cond v (refuses 9) (gives (countIn (piecesOf bytes)))
+    go : (v : Bool) → recordsWrong bytes (piecesOf bytes) ≡ v → refuses (number RecordsWrong) ≡ cond v (refuses (number RecordsWrong)) (gives (countIn (piecesOf bytes)))
     go true e = refl
     go false e = absurd (none (countIn (piecesOf bytes)) (framed-exactly bytes h e))

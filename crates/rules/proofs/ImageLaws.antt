@@ -14,6 +14,7 @@ use Rattle.rules.specs.declared.Schedule.{Schedule}
 use Rattle.rules.specs.Ownership.{handles, nobody, at, owns, taken, ownedTwice}
 use Rattle.rules.specs.Sound.{soundNumbers, allSound, apart, sound}
 use Rattle.rules.specs.Good.{Good, FreeSlotsZero, treeFor, scheduleOf}
+use Rattle.rules.specs.Refusals.{number}
 use Rattle.rules.specs.Answers.{Outcome, refusing, loaded}
 use Rattle.rules.specs.Bytes.{little, littleNumber, same}
 use Rattle.rules.specs.Image.{Piece, written, joined, countPiece, connectionPiece, connectionPieces, treePiece, pieces, image, IsImage}
@@ -573,7 +574,7 @@ pub load-cases {ℓ} : (s : Schedule) (bytes : List ℕ) → AllBytes bytes → 
     → ((cs : List Connection) (n : ℕ) → Restores bytes cs → P (record { answer = loaded n; schedule = scheduleOf cs })) → P (load s bytes)
 unfolding load loadDone
 load-cases s bytes b P f g =
-    decided-cases P (loadChecks bytes) (refusing s) (loadDone bytes) f
+    decided-cases P (loadChecks bytes) (refusing s) (loadDone bytes) (λ why. f (number why))
     (λ p. g (connectionsOf (piecesOf bytes)) (countIn (piecesOf bytes)) (accepted-restores bytes (piecesOf bytes) (pieces-bytes bytes b) (passed-exactly bytes .0 p)))
 
 -- Load accepts bytes exactly when they are the image of some sound schedule.

@@ -8,10 +8,11 @@ use native.Mathlib.Omega.{arith}
 use lib.ListN.{set}
 use borrow.Author.Tests.{lt-ltb, le-ltb}
 use Rattle.rules.specs.declared.Schedule.{Schedule}
+use Rattle.rules.specs.declared.Refusal.the-variants.{HandleAbove63, HandleLive, IntervalOutside, ShareWrong, NoOpenAnchor}
 use Rattle.rules.specs.Ownership.{taken}
 use Rattle.rules.specs.Mirror.{mirrored}
 use Rattle.rules.specs.Good.{scheduleOf}
-use Rattle.rules.specs.Refusals.{check}
+use Rattle.rules.specs.Refusals.{number, check}
 use Rattle.rules.specs.Answers.{Outcome, refusing, ok}
 use Rattle.rules.specs.Handles.{isLive}
 use Rattle.rules.specs.Admit.{intervalOutside, kOf, shareWrong, firstOpen, noOpenAnchor, newConnection, admitChecks, anchorFor, admitDone, admit}
@@ -28,7 +29,7 @@ carry s h f c passes = refusing s 0
 carry s h f c (refuses n) = refusing s n
 
 module _ (s : Schedule) (h i f c : ℕ) where
-  pub admit-1 : 63 < h → admit s h i f c ≡ refusing s 1
+  pub admit-1 : 63 < h → admit s h i f c ≡ refusing s (number HandleAbove63)
   unfolding admit admitChecks
   admit-1 p = rw (lt-ltb 63 h p)
 
@@ -37,7 +38,7 @@ module _ (s : Schedule) (h i f c : ℕ) where
   admit-plan p =
       rw (le-ltb 63 h p)
       (sym (decided-map (carry s h f c)
-      (check 2 (isLive s h) ∷ check 4 (intervalOutside i) ∷ check 5 (shareWrong f c (2 ^ kOf i)) ∷ check 6 (noOpenAnchor (firstOpen (taken (s .connections)) (kOf i) f)) ∷ [])
+      (check HandleLive (isLive s h) ∷ check IntervalOutside (intervalOutside i) ∷ check ShareWrong (shareWrong f c (2 ^ kOf i)) ∷ check NoOpenAnchor (noOpenAnchor (firstOpen (taken (s .connections)) (kOf i) f)) ∷ [])
       refuses (places (kOf i) (mirrored (kOf i) (Option·getD (firstOpen (taken (s .connections)) (kOf i) f) 0)))))
 
 -- What a plan that places tells: the bounds of its numbers.
@@ -57,7 +58,7 @@ pub planned : (live : Bool) (t : ℕ → Bool) (i f c k A : ℕ) → planStep li
 unfolding planStep
 planned live t i f c k A =
     decided-cases (λ x. x ≡ places k A → Planned k A f c)
-    (check 2 live ∷ check 4 (intervalOutside i) ∷ check 5 (shareWrong f c (2 ^ kOf i)) ∷ check 6 (noOpenAnchor (firstOpen t (kOf i) f)) ∷ [])
+    (check HandleLive live ∷ check IntervalOutside (intervalOutside i) ∷ check ShareWrong (shareWrong f c (2 ^ kOf i)) ∷ check NoOpenAnchor (noOpenAnchor (firstOpen t (kOf i) f)) ∷ [])
     refuses (places (kOf i) (mirrored (kOf i) (Option·getD (firstOpen t (kOf i) f) 0)))
     (λ n e. let z : _≡_ {A = ℕ} 0 1 = cc in absurd (omega arith))
     (λ p e.

@@ -1,37 +1,36 @@
 -- What the two questions mean: whose block it is, and how far the next anchor is.
 use mathlib.Core.Path.{_≡_, refl, sym, ap, _∙_}
 use mathlib.Core.Bool.{true, false, not, false≢true}
-use mathlib.Core.Logic.{by-cases, _↔_}
-use mathlib.Core.List.{[], _∷_}
+use mathlib.Core.Logic.{by-cases, _↔_, inl, inr}
 use mathlib.Core.Option.{Option, none, some}
 use Prim.Native.Nat.{ℕ, _+_, _*_, _%_, _^_, _<_, _≤_}
 use native.Mathlib.Nat.{add-zero, mod-lt, mod-le, add-mod-mod}
 use native.Mathlib.Decide.{decLe}
 use native.Mathlib.Omega.{arith}
 use lib.Pow.{pow-pos}
-use lib.Dec.{ltb}
 use lib.IntN.{pos}
 use lib.ListN.{length, List·getD-eq-default}
 use borrow.Author.Tests.{lt-ltb, le-ltb}
 use Rattle.rules.specs.declared.Connection.{Connection}
 use Rattle.rules.specs.declared.Schedule.{Schedule}
+use Rattle.rules.specs.declared.Refusal.the-variants.{HandleAbove63, HandleNotLive}
 use Rattle.rules.specs.Below.{least}
 use Rattle.rules.specs.Time.{listBlocks, minusMod}
 use Rattle.rules.specs.Core.{Subrated}
 use Rattle.rules.specs.Classes.{depth, free}
 use Rattle.rules.specs.Ownership.{handles, largestK, nobody, factor, subrating, owns, taken}
 use Rattle.rules.specs.Good.{Good}
-use Rattle.rules.specs.Refusals.{check}
+use Rattle.rules.specs.Refusals.{number}
 use Rattle.rules.specs.Answers.{refused, owner, idle, slots}
-use Rattle.rules.specs.Handles.{connection, isLive, notLive}
+use Rattle.rules.specs.Handles.{connection, isLive}
 use Rattle.rules.specs.Owner.{ownerOr, ownerOf}
-use Rattle.rules.specs.Anchor.{slotsToAnchor, anchor}
+use Rattle.rules.specs.Anchor.{slotsToAnchor, anchorChecks, anchor}
 use Rattle.rules.proofs.BoolLaws.{is-false}
 use Rattle.rules.proofs.BelowLaws.{least-some, least-none, least-is, least-is-none}
 use Rattle.rules.proofs.SoundLaws.{class-free-ever}
 use Rattle.rules.proofs.EndlessTime.{minusMod-back, minusMod-only, anchors-subrated, factor-mod}
 use Rattle.rules.proofs.ScheduleLaws.{good-sound, nobody-owns}
-use Rattle.rules.proofs.RefusalLaws.{decided-stop, decided-skip, decided-passed}
+use Rattle.rules.proofs.RefusalLaws.{FirstRefusal, decided-first, decided-passed}
 
 -- ---- owner
 module _ (s : Schedule) (b : ℕ) where
@@ -88,20 +87,19 @@ module _ (s : Schedule) (good : Good s) (b : ℕ) where
 
 -- ---- anchor
 module _ (s : Schedule) (h b : ℕ) where
-  pub anchor-1 : 63 < h → anchor s h b ≡ refused 1
+  refused-first : {n : ℕ} → FirstRefusal (anchorChecks s h) n → anchor s h b ≡ refused n
   unfolding anchor
-  anchor-1 p = decided-stop 1 (ltb 63 h) (check 3 (notLive s h) ∷ []) refused (slots (slotsToAnchor (connection s h) b)) (lt-ltb 63 h p)
+  refused-first = decided-first (anchorChecks s h) refused (slots (slotsToAnchor (connection s h) b))
 
-  pub anchor-3 : h ≤ 63 → isLive s h ≡ false → anchor s h b ≡ refused 3
-  unfolding anchor
-  anchor-3 p q =
-      decided-skip 1 (ltb 63 h) (check 3 (notLive s h) ∷ []) refused (slots (slotsToAnchor (connection s h) b)) (le-ltb 63 h p)
-      ∙ decided-stop 3 (notLive s h) [] refused (slots (slotsToAnchor (connection s h) b)) (ap not q)
+  pub anchor-1 : 63 < h → anchor s h b ≡ refused (number HandleAbove63)
+  anchor-1 p = refused-first (inl (lt-ltb 63 h p, refl))
+
+  pub anchor-3 : h ≤ 63 → isLive s h ≡ false → anchor s h b ≡ refused (number HandleNotLive)
+  anchor-3 p q = refused-first (inr (le-ltb 63 h p, inl (ap not q, refl)))
 
   pub anchor-ok : h ≤ 63 → isLive s h ≡ true → anchor s h b ≡ slots (slotsToAnchor (connection s h) b)
   unfolding anchor
-  anchor-ok p q =
-      decided-passed (check 1 (ltb 63 h) ∷ check 3 (notLive s h) ∷ []) refused (slots (slotsToAnchor (connection s h) b)) (le-ltb 63 h p, (ap not q, tt))
+  anchor-ok p q = decided-passed (anchorChecks s h) refused (slots (slotsToAnchor (connection s h) b)) (le-ltb 63 h p, (ap not q, tt))
 
 -- It is the least number of slots, 6 to a block, to an anchor of the connection.
 pub anchor-least : (c : Connection) (b : ℕ)

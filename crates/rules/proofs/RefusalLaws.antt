@@ -1,11 +1,12 @@
 -- The laws of a call's checks.
 use mathlib.Core.Path.{_≡_, refl, sym, ap, _∙_}
-use mathlib.Core.Bool.{Bool, true, false, cond, false≢true}
+use mathlib.Core.Bool.{Bool, true, false, cond}
 use mathlib.Core.List.{List, [], _∷_}
 use mathlib.Core.Logic.{_↔_, _⊎_, inl, inr, ⊎-elim}
 use Prim.Native.Nat.{ℕ}
+use Rattle.rules.specs.declared.Refusal.{Refusal}
 use Rattle.rules.specs.declared.Schedule.{Schedule}
-use Rattle.rules.specs.Refusals.{Check, check, decided}
+use Rattle.rules.specs.Refusals.{number, Check, decided}
 use Rattle.rules.specs.Answers.{Answer, Outcome, refused, refusing}
 
 -- No check refuses.
@@ -14,13 +15,13 @@ Passed [] = Unit {0}
 Passed (c ∷ cs) = (c .refuses ≡ false) × Passed cs
 
 -- A call is refused, or all its checks pass and it is carried out.
-pub decided-cases {ℓ κ} : {A : Type ℓ} (P : A → Type κ) (cs : List Check) (refuse : ℕ → A) (done : A) → ((n : ℕ) → P (refuse n)) → (Passed cs → P done) → P (decided cs refuse done)
+pub decided-cases {ℓ κ} : {A : Type ℓ} (P : A → Type κ) (cs : List Check) (refuse : ℕ → A) (done : A) → ((why : Refusal) → P (refuse (number why))) → (Passed cs → P done) → P (decided cs refuse done)
 unfolding decided
 decided-cases P [] refuse done f g = g tt
 decided-cases P (c ∷ cs) refuse done f g = go (c .refuses) refl (λ q. decided-cases P cs refuse done f (λ p. g (q, p)))
   where
-    go : (v : Bool) → c .refuses ≡ v → (c .refuses ≡ false → P (decided cs refuse done)) → P (cond (c .refuses) (refuse (c .number)) (decided cs refuse done))
-    go true q later = rw q (f (c .number))
+    go : (v : Bool) → c .refuses ≡ v → (c .refuses ≡ false → P (decided cs refuse done)) → P (cond (c .refuses) (refuse (number (c .why))) (decided cs refuse done))
+    go true q later = rw q (f (c .why))
     go false q later = rw q (later q)
 
 -- Where all checks pass, it is carried out.
@@ -29,15 +30,16 @@ unfolding decided
 decided-passed [] refuse done p = refl
 decided-passed (c ∷ cs) refuse done p = rw (p .0) (decided-passed cs refuse done (p .1))
 
--- A check that refuses ends the call with its number; one that passes leaves it to the later ones.
-module _ {ℓ} {A : Type ℓ} (n : ℕ) (refuses : Bool) (cs : List Check) (refuse : ℕ → A) (done : A) where
-  pub decided-stop : refuses ≡ true → decided (check n refuses ∷ cs) refuse done ≡ refuse n
-  unfolding decided
-  decided-stop e = rw e
+-- The number that the first refusing check gives.
+abbrev pub FirstRefusal : List Check → ℕ → Type 0
+FirstRefusal [] n = ⊥
+FirstRefusal (c ∷ cs) n = ((c .refuses ≡ true) × (number (c .why) ≡ n)) ⊎ ((c .refuses ≡ false) × FirstRefusal cs n)
 
-  pub decided-skip : refuses ≡ false → decided (check n refuses ∷ cs) refuse done ≡ decided cs refuse done
-  unfolding decided
-  decided-skip e = rw e
+-- It is the number that the call is refused with.
+pub decided-first {ℓ} : {A : Type ℓ} (cs : List Check) (refuse : ℕ → A) (done : A) {n : ℕ} → FirstRefusal cs n → decided cs refuse done ≡ refuse n
+unfolding decided
+decided-first [] refuse done e = absurd e
+decided-first (c ∷ cs) refuse done e = ⊎-elim (λ w. rw (w .0) (ap refuse (w .1))) (λ w. rw (w .0) (decided-first cs refuse done (w .1))) e
 
 -- What is decided goes through a function.
 pub decided-map {ℓ κ} : {A : Type ℓ} {B : Type κ} (g : A → B) (cs : List Check) (refuse : ℕ → A) (done : A) → g (decided cs refuse done) ≡ decided cs (λ n. g (refuse n)) (g done)
@@ -46,7 +48,7 @@ decided-map g [] refuse done = refl
 decided-map g (c ∷ cs) refuse done = go (c .refuses) (decided-map g cs refuse done)
   where
     go : (v : Bool) → g (decided cs refuse done) ≡ decided cs (λ n. g (refuse n)) (g done)
-        → g (cond v (refuse (c .number)) (decided cs refuse done)) ≡ cond v (g (refuse (c .number))) (decided cs (λ n. g (refuse n)) (g done))
+        → g (cond v (refuse (number (c .why))) (decided cs refuse done)) ≡ cond v (g (refuse (number (c .why)))) (decided cs (λ n. g (refuse n)) (g done))
     go true later = refl
     go false later = later
 
@@ -56,27 +58,6 @@ pub refusal-keeps : (cs : List Check) (s : Schedule) (done : Outcome) → ((n : 
 refusal-keeps cs s done never n =
     decided-cases (λ o. o .answer ≡ refused n → o .schedule ≡ s) cs (refusing s) done (λ m e. refl) (λ p e. absurd (never n e))
 
--- So it is of the number of each check.
-abbrev pub Numbered : (ℕ → Type 0) → List Check → Type 0
-Numbered Q [] = Unit {0}
-Numbered Q (c ∷ cs) = Q (c .number) × Numbered Q cs
-
--- A refusal's number is that of one of the checks.
-pub decided-numbered {ℓ κ} : {A : Type ℓ} (P : A → Type κ) (Q : ℕ → Type 0) (cs : List Check) (refuse : ℕ → A) (done : A)
-    → Numbered Q cs → ((n : ℕ) → Q n → P (refuse n)) → P done → P (decided cs refuse done)
-unfolding decided
-decided-numbered P Q [] refuse done q f p = p
-decided-numbered P Q (c ∷ cs) refuse done q f p = go (c .refuses) (decided-numbered P Q cs refuse done (q .1) f p)
-  where
-    go : (v : Bool) → P (decided cs refuse done) → P (cond v (refuse (c .number)) (decided cs refuse done))
-    go true later = f (c .number) (q .0)
-    go false later = later
-
--- The number that the first refusing check gives.
-abbrev pub FirstRefusal : List Check → ℕ → Type 0
-FirstRefusal [] n = ⊥
-FirstRefusal (c ∷ cs) n = ((c .refuses ≡ true) × (c .number ≡ n)) ⊎ ((c .refuses ≡ false) × FirstRefusal cs n)
-
 pub refused-same : {m n : ℕ} → refused m ≡ refused n → m ≡ n
 refused-same e = cc
 
@@ -84,22 +65,12 @@ refused-same e = cc
 pub refused-exactly : (cs : List Check) (done : Answer) → ((n : ℕ) → done ≡ refused n → ⊥) → (n : ℕ) → (decided cs refused done ≡ refused n) ↔ FirstRefusal cs n
 unfolding decided
 refused-exactly [] done never n = (never n, λ e. absurd e)
-refused-exactly (c ∷ cs) done never n = go (c .refuses) refl (refused-exactly cs done never n)
+refused-exactly (c ∷ cs) done never n = (go (c .refuses) refl (refused-exactly cs done never n .0), decided-first (c ∷ cs) refused done)
   where
-    go : (v : Bool) → c .refuses ≡ v → (decided cs refused done ≡ refused n) ↔ FirstRefusal cs n
-        → (cond (c .refuses) (refused (c .number)) (decided cs refused done) ≡ refused n) ↔ FirstRefusal (c ∷ cs) n
-    go true q later = (
-      λ e. inl (q, refused-same (ap (λ (v : Bool). cond v (refused (c .number)) (decided cs refused done)) (sym q) ∙ e)),
-      ⊎-elim
-          (λ w. ap (λ (v : Bool). cond v (refused (c .number)) (decided cs refused done)) q ∙ ap refused (w .1))
-          (λ w. absurd (false≢true (sym (w .0) ∙ q))),
-    )
-    go false q later = (
-      λ e. inr (q, later .0 (ap (λ (v : Bool). cond v (refused (c .number)) (decided cs refused done)) (sym q) ∙ e)),
-      ⊎-elim
-          (λ w. absurd (false≢true (sym q ∙ w .0)))
-          (λ w. ap (λ (v : Bool). cond v (refused (c .number)) (decided cs refused done)) q ∙ later .1 (w .1)),
-    )
+    go : (v : Bool) → c .refuses ≡ v → (decided cs refused done ≡ refused n → FirstRefusal cs n)
+        → cond (c .refuses) (refused (number (c .why))) (decided cs refused done) ≡ refused n → FirstRefusal (c ∷ cs) n
+    go true q later e = inl (q, refused-same (rw q at e))
+    go false q later e = inr (q, later (rw q at e))
 
 -- The same of a call that answers with a schedule.
 pub refusing-exactly : (cs : List Check) (s : Schedule) (done : Outcome) → ((n : ℕ) → done .answer ≡ refused n → ⊥) → (n : ℕ) → (decided cs (refusing s) done .answer ≡ refused n) ↔ FirstRefusal cs n

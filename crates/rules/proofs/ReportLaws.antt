@@ -1,8 +1,7 @@
 -- What a report means.
 use mathlib.Core.Path.{_≡_, refl, sym, ap, _∙_}
 use mathlib.Core.Bool.{Bool, true, false, not, _&&_, false≢true}
-use mathlib.Core.Logic.{_≢_, by-cases, _↔_}
-use mathlib.Core.List.{[], _∷_}
+use mathlib.Core.Logic.{_≢_, by-cases, _↔_, inl, inr}
 use Prim.Native.Nat.{ℕ, _+_, _-_, _*_, _%_, _<_, _≤_}
 use native.Mathlib.Nat.{mod-lt}
 use native.Mathlib.Decide.{ℕ-discrete}
@@ -12,45 +11,43 @@ use lib.Dec.{ltb}
 use borrow.Author.Tests.{lt-ltb, le-ltb, ltb-true, ltb-false, not-false}
 use Rattle.rules.specs.declared.Connection.{Connection}
 use Rattle.rules.specs.declared.Schedule.{Schedule}
+use Rattle.rules.specs.declared.Refusal.the-variants.{HandleAbove63, HandleNotLive, SampleAboveRun}
 use Rattle.rules.specs.Time.{blockMicros, minusMod}
 use Rattle.rules.specs.Ownership.{factor, at, belongs, owns, taken}
 use Rattle.rules.specs.Classes.{depth}
 use Rattle.rules.specs.Good.{Good, FreeSlotsZero}
 use Rattle.rules.specs.Answers.{Outcome, refusing, grown, lengthIn}
-use Rattle.rules.specs.Handles.{connection, isLive, notLive}
-use Rattle.rules.specs.Refusals.{check, decided}
+use Rattle.rules.specs.Handles.{connection, isLive}
+use Rattle.rules.specs.Refusals.{number}
 use Rattle.rules.specs.Meter.{moved, need, target, change}
-use Rattle.rules.specs.Report.{sampleAbove, roomToGrow, metered, reportChecks, reportAnswer, reportDone, report}
+use Rattle.rules.specs.Report.{roomToGrow, metered, reportChecks, reportAnswer, reportDone, report}
 use Rattle.rules.proofs.BoolLaws.{both, is-false}
 use Rattle.rules.proofs.EndlessTime.{minusMod-back}
 use Rattle.rules.proofs.SoundLaws.{Numbers, class-free-ever}
 use Rattle.rules.proofs.ScheduleLaws.{others, others-at, others-apart, inside, good-sound, set-good, set-zero, set-other, set-same}
 use Rattle.rules.proofs.MeterLaws.{moved-most, need-holds, target-bounds, target-enough, target-next, change-grown, change-cases}
-use Rattle.rules.proofs.RefusalLaws.{decided-cases, decided-stop, decided-skip, decided-passed}
+use Rattle.rules.proofs.RefusalLaws.{FirstRefusal, decided-cases, decided-first, decided-passed}
 
 -- ---- each exit
 module _ (s : Schedule) (h sample : ℕ) where
-  pub report-1 : 63 < h → report s h sample ≡ refusing s 1
+  refused-first : {n : ℕ} → FirstRefusal (reportChecks s h sample) n → report s h sample ≡ refusing s n
   unfolding report
-  report-1 p = decided-stop 1 (ltb 63 h) (check 3 (notLive s h) ∷ check 7 (sampleAbove (connection s h) sample) ∷ []) (refusing s) (reportDone s h sample) (lt-ltb 63 h p)
+  refused-first = decided-first (reportChecks s h sample) (refusing s) (reportDone s h sample)
+
+  pub report-1 : 63 < h → report s h sample ≡ refusing s (number HandleAbove63)
+  report-1 p = refused-first (inl (lt-ltb 63 h p, refl))
 
   module _ (p : h ≤ 63) where
-    on : report s h sample ≡ decided (check 3 (notLive s h) ∷ check 7 (sampleAbove (connection s h) sample) ∷ []) (refusing s) (reportDone s h sample)
-    unfolding report
-    on = decided-skip 1 (ltb 63 h) (check 3 (notLive s h) ∷ check 7 (sampleAbove (connection s h) sample) ∷ []) (refusing s) (reportDone s h sample) (le-ltb 63 h p)
-
-    pub report-3 : isLive s h ≡ false → report s h sample ≡ refusing s 3
-    report-3 q = on ∙ decided-stop 3 (notLive s h) (check 7 (sampleAbove (connection s h) sample) ∷ []) (refusing s) (reportDone s h sample) (ap not q)
+    pub report-3 : isLive s h ≡ false → report s h sample ≡ refusing s (number HandleNotLive)
+    report-3 q = refused-first (inr (le-ltb 63 h p, inl (ap not q, refl)))
 
     module _ (q : isLive s h ≡ true) where
-      on′ : report s h sample ≡ decided (check 7 (sampleAbove (connection s h) sample) ∷ []) (refusing s) (reportDone s h sample)
-      on′ = on ∙ decided-skip 3 (notLive s h) (check 7 (sampleAbove (connection s h) sample) ∷ []) (refusing s) (reportDone s h sample) (ap not q)
-
-      pub report-7 : connection s h .length * 7500 < sample → report s h sample ≡ refusing s 7
-      report-7 l = on′ ∙ decided-stop 7 (sampleAbove (connection s h) sample) [] (refusing s) (reportDone s h sample) (lt-ltb (connection s h .length * 7500) sample l)
+      pub report-7 : connection s h .length * 7500 < sample → report s h sample ≡ refusing s (number SampleAboveRun)
+      report-7 l = refused-first (inr (le-ltb 63 h p, inr (ap not q, inl (lt-ltb (connection s h .length * 7500) sample l, refl))))
 
       pub report-ok : sample ≤ connection s h .length * 7500 → report s h sample ≡ reportDone s h sample
-      report-ok l = on′ ∙ decided-passed (check 7 (sampleAbove (connection s h) sample) ∷ []) (refusing s) (reportDone s h sample) (le-ltb (connection s h .length * 7500) sample l, tt)
+      unfolding report
+      report-ok l = decided-passed (reportChecks s h sample) (refusing s) (reportDone s h sample) (le-ltb 63 h p, (ap not q, (le-ltb (connection s h .length * 7500) sample l, tt)))
 
 -- ---- a report that is carried out
 pub record Reportable (s : Schedule) (h sample : ℕ) : Type 0 where
@@ -61,7 +58,7 @@ pub record Reportable (s : Schedule) (h sample : ℕ) : Type 0 where
 pub report-cases {ℓ} : (s : Schedule) (h sample : ℕ) (P : Outcome → Type ℓ) → ((n : ℕ) → P (refusing s n)) → (Reportable s h sample → P (reportDone s h sample)) → P (report s h sample)
 unfolding report
 report-cases s h sample P f g =
-    decided-cases P (reportChecks s h sample) (refusing s) (reportDone s h sample) f
+    decided-cases P (reportChecks s h sample) (refusing s) (reportDone s h sample) (λ why. f (number why))
     (λ p. g (record { handle = ltb-false 63 h (p .0); live = not-false (isLive s h) (p .1 .0); used = ltb-false _ sample (p .1 .1 .0) }))
 
 -- Room to grow: in a sound schedule no block of the class of (A + L) mod F, in endless time, belongs to a live connection.

@@ -7,10 +7,12 @@ use Prim.Native.Nat.{ℕ, _^_, _<_, _≤_}
 use native.Mathlib.Omega.{arith}
 use borrow.Author.Tests.{le-ltb, ltb-false, not-false}
 use Rattle.rules.specs.declared.Schedule.{Schedule}
+use Rattle.rules.specs.declared.Refusal.the-variants.{NoOpenAnchor}
 use Rattle.rules.specs.Core.{isInterval}
 use Rattle.rules.specs.Ownership.{taken}
 use Rattle.rules.specs.Mirror.{mirrored}
 use Rattle.rules.specs.Good.{Good}
+use Rattle.rules.specs.Refusals.{number}
 use Rattle.rules.specs.Answers.{Outcome, refused, refusing, ok}
 use Rattle.rules.specs.Handles.{isLive}
 use Rattle.rules.specs.Admit.{kOf, shareWrong, isOpen, firstOpen, noOpenAnchor, admitChecks, anchorFor, admitDone, admit}
@@ -45,13 +47,13 @@ module _ (s : Schedule) (good : Good s) (h i f c : ℕ) where
   unfolding admitDone
   never n e = let z : _≡_ {A = ℕ} 0 1 = cc in omega arith
 
-  pub no-room-exactly : (admit s h i f c .answer ≡ refused 6) ↔ NoRoom s h i f c
+  pub no-room-exactly : (admit s h i f c .answer ≡ refused (number NoOpenAnchor)) ↔ NoRoom s h i f c
   unfolding admit admitChecks
   no-room-exactly =
-      let r = refusing-exactly (admitChecks s h i f c) s (admitDone s h (kOf i) f c) never 6 in
+      let r = refusing-exactly (admitChecks s h i f c) s (admitDone s h (kOf i) f c) never (number NoOpenAnchor) in
       (λ e. to (r .0 e), λ n. r .1 (from n))
     where
-      to : FirstRefusal (admitChecks s h i f c) 6 → NoRoom s h i f c
+      to : FirstRefusal (admitChecks s h i f c) (number NoOpenAnchor) → NoRoom s h i f c
       to =
           ⊎-elim (λ w. let x = w .1 in absurd (omega arith))
           (λ w₁. ⊎-elim (λ w. let x = w .1 in absurd (omega arith))
@@ -68,7 +70,7 @@ module _ (s : Schedule) (good : Good s) (h i f c : ℕ) where
           })
           (λ w. absurd (w .1)) (w₅ .1)) (w₄ .1)) (w₂ .1)) (w₁ .1))
 
-      from : NoRoom s h i f c → FirstRefusal (admitChecks s h i f c) 6
+      from : NoRoom s h i f c → FirstRefusal (admitChecks s h i f c) (number NoOpenAnchor)
       from n =
           inr (le-ltb 63 h (n .handle), inr (n .unused, inr (ap not (n .interval), inr (n .share, inl (ap noOpenAnchor (none-shut (n .shut)), refl)))))
 

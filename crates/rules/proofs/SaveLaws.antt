@@ -1,6 +1,7 @@
 -- The laws of a save: an image grows record by record, and what the buffer holds at the end.
-use mathlib.Core.Path.{_≡_, sym, ap, _∙_}
+use mathlib.Core.Path.{_≡_, refl, sym, ap, _∙_}
 use mathlib.Core.Bool.{Bool, true, false, cond}
+use mathlib.Core.Logic.{inl}
 use mathlib.Core.List.{List, [], _∷_, _++_, append-nil}
 use Prim.Native.Nat.{ℕ, suc, _+_, _<_, _≤_}
 use native.Mathlib.Nat.{add-zero}
@@ -11,12 +12,14 @@ use lib.Seq.{sets, sets-eq, take-suc}
 use borrow.Author.Tests.{lt-ltb, le-ltb}
 use Rattle.rules.specs.declared.Connection.{Connection}
 use Rattle.rules.specs.declared.Schedule.{Schedule}
+use Rattle.rules.specs.declared.Refusal.the-variants.{BufferShort}
 use Rattle.rules.specs.Ownership.{nobody, at}
+use Rattle.rules.specs.Refusals.{number}
 use Rattle.rules.specs.Answers.{refused, saved}
 use Rattle.rules.specs.Image.{Piece, written, joined, connectionPiece, connectionPieces, image}
 use Rattle.rules.specs.Save.{Written, saveChecks, saveDone, save}
 use Rattle.rules.proofs.PieceLaws.{joined-append}
-use Rattle.rules.proofs.RefusalLaws.{decided-stop, decided-passed}
+use Rattle.rules.proofs.RefusalLaws.{decided-first, decided-passed}
 
 -- ---- record by record
 -- The records of the connections go on where the handles go on.
@@ -87,9 +90,9 @@ from-start xs buffer l =
     let e : 0 + length xs ≡ length xs = omega arith in
     rw e at (sets-eq xs buffer 0 (omega arith))
 
-pub save-short : (s : Schedule) (buffer : List ℕ) → length buffer < length (image (s .connections)) → _≡_ {A = Written} (record { answer = refused 8; buffer = buffer }) (save s buffer)
+pub save-short : (s : Schedule) (buffer : List ℕ) → length buffer < length (image (s .connections)) → _≡_ {A = Written} (record { answer = refused (number BufferShort); buffer = buffer }) (save s buffer)
 unfolding save saveChecks
-save-short s buffer l = sym (decided-stop 8 _ [] (λ n. record { answer = refused n; buffer = buffer }) (saveDone s buffer) (lt-ltb (length buffer) (length (image (s .connections))) l))
+save-short s buffer l = sym (decided-first (saveChecks s buffer) (λ n. record { answer = refused n; buffer = buffer }) (saveDone s buffer) (inl (lt-ltb (length buffer) (length (image (s .connections))) l, refl)))
 
 pub save-written : (s : Schedule) (buffer : List ℕ) → length (image (s .connections)) ≤ length buffer
     → _≡_ {A = Written} (record { answer = saved (length (image (s .connections))); buffer = sets buffer 0 (image (s .connections)) }) (save s buffer)

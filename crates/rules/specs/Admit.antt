@@ -7,6 +7,7 @@ use lib.Dec.{leb, ltb, eqb}
 use lib.ListN.{set}
 use Rattle.rules.specs.declared.Connection.{Connection}
 use Rattle.rules.specs.declared.Schedule.{Schedule}
+use Rattle.rules.specs.declared.Refusal.the-variants.{HandleAbove63, HandleLive, IntervalOutside, ShareWrong, NoOpenAnchor}
 use Rattle.rules.specs.Below.{largest, least}
 use Rattle.rules.specs.Time.{blockSlots, blockMicros, guardMicros}
 use Rattle.rules.specs.Core.{isInterval}
@@ -55,11 +56,11 @@ newConnection k A floor ceiling = record { live = true; k = k; anchor = A; lengt
 unfoldable pub admitChecks : Schedule → ℕ → ℕ → ℕ → ℕ → List Check
 unfolding isInterval kOf firstOpen taken
 admitChecks s handle interval floor ceiling =
-    check 1 (aboveHandles handle)
-    ∷ check 2 (isLive s handle)
-    ∷ check 4 (intervalOutside interval)
-    ∷ check 5 (shareWrong floor ceiling (2 ^ kOf interval))
-    ∷ check 6 (noOpenAnchor (firstOpen (taken (s .connections)) (kOf interval) floor))
+    check HandleAbove63 (aboveHandles handle)
+    ∷ check HandleLive (isLive s handle)
+    ∷ check IntervalOutside (intervalOutside interval)
+    ∷ check ShareWrong (shareWrong floor ceiling (2 ^ kOf interval))
+    ∷ check NoOpenAnchor (noOpenAnchor (firstOpen (taken (s .connections)) (kOf interval) floor))
     ∷ []
 
 -- The anchor that is taken.

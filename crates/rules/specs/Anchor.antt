@@ -3,6 +3,7 @@ use Prim.Native.Nat.{ℕ, _*_}
 use mathlib.Core.List.{List, [], _∷_}
 use Rattle.rules.specs.declared.Connection.{Connection}
 use Rattle.rules.specs.declared.Schedule.{Schedule}
+use Rattle.rules.specs.declared.Refusal.the-variants.{HandleAbove63, HandleNotLive}
 use Rattle.rules.specs.Time.{blockSlots, minusMod}
 use Rattle.rules.specs.Ownership.{factor}
 use Rattle.rules.specs.Refusals.{Check, check, decided}
@@ -16,7 +17,7 @@ slotsToAnchor c block = blockSlots * minusMod (c .anchor) block (factor c)
 
 -- "Checks 1, 3."
 abbrev pub anchorChecks : Schedule → ℕ → List Check
-anchorChecks s handle = check 1 (aboveHandles handle) ∷ check 3 (notLive s handle) ∷ []
+anchorChecks s handle = check HandleAbove63 (aboveHandles handle) ∷ check HandleNotLive (notLive s handle) ∷ []
 
 unfoldable pub anchor : Schedule → ℕ → ℕ → Answer
 unfolding slotsToAnchor decided

@@ -6,6 +6,7 @@ use lib.Dec.{leb, ltb, eqb}
 use lib.ListN.{length, take, drop, set, replicate}
 use Rattle.rules.specs.declared.Connection.{Connection}
 use Rattle.rules.specs.declared.Schedule.{Schedule}
+use Rattle.rules.specs.declared.Refusal.the-variants.{RecordsWrong, NumbersUnsound, BlockOwnedTwice, TreeDiffers}
 use Rattle.rules.specs.Ownership.{handles, nobody}
 use Rattle.rules.specs.Sound.{soundNumbers, apart}
 use Rattle.rules.specs.Good.{treeFor, scheduleOf}
@@ -117,10 +118,10 @@ unfolding piecesOf connectionsOf recordsWrong numbersUnsound apart treeIn treeFo
 loadChecks bytes =
     let rs = piecesOf bytes in
     let cs = connectionsOf rs in
-    check 9 (recordsWrong bytes rs)
-    ∷ check 10 (numbersUnsound rs)
-    ∷ check 11 (not (apart cs))
-    ∷ check 12 (not (same (treeIn rs) (treeFor cs)))
+    check RecordsWrong (recordsWrong bytes rs)
+    ∷ check NumbersUnsound (numbersUnsound rs)
+    ∷ check BlockOwnedTwice (not (apart cs))
+    ∷ check TreeDiffers (not (same (treeIn rs) (treeFor cs)))
     ∷ []
 
 -- "Accepted, the image's schedule replaces the old one; the answer is n."

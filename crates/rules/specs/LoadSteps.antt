@@ -4,9 +4,11 @@ use mathlib.Core.Path.{_≡_}
 use mathlib.Core.Bool.{cond}
 use mathlib.Core.List.{List}
 use lib.ListN.{length, take, drop}
+use Rattle.rules.specs.declared.Refusal.the-variants.{RecordsWrong}
 use Rattle.rules.specs.declared.Frame.{Frame}
 use Rattle.rules.specs.declared.Frame.the-variants.{Counts, Wrong}
 use Rattle.rules.specs.Below.{tabulate}
+use Rattle.rules.specs.Refusals.{number}
 use Rattle.rules.specs.Steps.{Step, gives, refuses}
 use Rattle.rules.specs.Bytes.{littleNumber}
 use Rattle.rules.specs.Image.{Piece}
@@ -15,12 +17,12 @@ use Rattle.rules.specs.Load.{piecesOf, countIn, recordsWrong}
 -- The sheet's number and values for every case.
 abbrev pub ofFrame : Frame → Step
 ofFrame (Counts n) = gives n
-ofFrame Wrong = refuses 9
+ofFrame Wrong = refuses (number RecordsWrong)
 
 -- Check 9: the count, where the bytes are such records one after the other.
 unfoldable pub frameStep : List ℕ → Step
 unfolding piecesOf countIn recordsWrong
-frameStep bytes = cond (recordsWrong bytes (piecesOf bytes)) (refuses 9) (gives (countIn (piecesOf bytes)))
+frameStep bytes = cond (recordsWrong bytes (piecesOf bytes)) (refuses (number RecordsWrong)) (gives (countIn (piecesOf bytes)))
 
 -- Record i of the connections: its payload has 14 bytes, after a record of 6 bytes and i of 18.
 abbrev pub pieceAt : List ℕ → ℕ → Piece

@@ -20,17 +20,17 @@ number NumbersUnsound = 10
 number BlockOwnedTwice = 11
 number TreeDiffers = 12
 
--- A check of a call: its number in the table, and whether it refuses.
+-- A check of a call: the refusal that it gives, and whether it refuses.
 pub record Check : Type 0 where
-  pub number : ℕ
+  pub why : Refusal
   pub refuses : Bool
 
-abbrev pub check : ℕ → Bool → Check
-check n refuses = record { number = n; refuses = refuses }
+abbrev pub check : Refusal → Bool → Check
+check why refuses = record { why = why; refuses = refuses }
 
 -- The checks go in order: the first that refuses gives its number; where none does, the call is carried out.
 unfoldable pub decided {ℓ} : {A : Type ℓ} → List Check → (ℕ → A) → A → A
 decided [] refused accepted = accepted
 decided (c ∷ cs) refused accepted =
     let later = decided cs refused accepted in
-    cond (c .refuses) (refused (c .number)) later
+    cond (c .refuses) (refused (number (c .why))) later

@@ -6,6 +6,7 @@ use lib.Dec.{ltb}
 use lib.ListN.{set}
 use Rattle.rules.specs.declared.Connection.{Connection}
 use Rattle.rules.specs.declared.Schedule.{Schedule}
+use Rattle.rules.specs.declared.Refusal.the-variants.{HandleAbove63, HandleNotLive, SampleAboveRun}
 use Rattle.rules.specs.Time.{blockMicros}
 use Rattle.rules.specs.Ownership.{factor, taken}
 use Rattle.rules.specs.Classes.{free}
@@ -31,9 +32,9 @@ metered c length estimate = record { live = c .live; k = c .k; anchor = c .ancho
 -- "Checks 1, 3, 7."
 abbrev pub reportChecks : Schedule → ℕ → ℕ → List Check
 reportChecks s handle sample =
-    check 1 (aboveHandles handle)
-    ∷ check 3 (notLive s handle)
-    ∷ check 7 (sampleAbove (connection s handle) sample)
+    check HandleAbove63 (aboveHandles handle)
+    ∷ check HandleNotLive (notLive s handle)
+    ∷ check SampleAboveRun (sampleAbove (connection s handle) sample)
     ∷ []
 
 -- What a report of the sample says of connection c.

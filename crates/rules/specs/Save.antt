@@ -4,6 +4,7 @@ use mathlib.Core.List.{List, [], _∷_, _++_}
 use lib.Dec.{ltb}
 use lib.ListN.{length, drop}
 use Rattle.rules.specs.declared.Schedule.{Schedule}
+use Rattle.rules.specs.declared.Refusal.the-variants.{BufferShort}
 use Rattle.rules.specs.Refusals.{Check, check, decided}
 use Rattle.rules.specs.Answers.{Answer, refused, saved}
 use Rattle.rules.specs.Image.{image}
@@ -16,7 +17,7 @@ pub record Written : Type 0 where
 -- "Check 8": "buffer shorter than the image".
 unfoldable pub saveChecks : Schedule → List ℕ → List Check
 unfolding image
-saveChecks s buffer = check 8 (ltb (length buffer) (length (image (s .connections)))) ∷ []
+saveChecks s buffer = check BufferShort (ltb (length buffer) (length (image (s .connections)))) ∷ []
 
 -- "Writes the image from the buffer's start and answers its size; the rest of the buffer is unchanged."
 unfoldable pub saveDone : Schedule → List ℕ → Written

@@ -3,6 +3,7 @@ use Prim.Native.Nat.{ℕ, _^_}
 use mathlib.Core.Bool.{Bool, cond}
 use mathlib.Core.List.{[], _∷_}
 use mathlib.Core.Option.{Option, none, some, Option·getD}
+use Rattle.rules.specs.declared.Refusal.the-variants.{HandleLive, IntervalOutside, ShareWrong, NoOpenAnchor}
 use Rattle.rules.specs.declared.Interval.{Interval}
 use Rattle.rules.specs.declared.Interval.the-variants.{Gives, Outside}
 use Rattle.rules.specs.declared.Share.{Share}
@@ -24,15 +25,15 @@ pub data Step : Type 0 where
 -- ---- the sheet's number and values for every case
 abbrev pub ofInterval : Interval → Step
 ofInterval (Gives k) = gives k
-ofInterval Outside = refuses 4
+ofInterval Outside = refuses (number IntervalOutside)
 
 abbrev pub ofShare : Share → Step
 ofShare Fits = passes
-ofShare Wrong = refuses 5
+ofShare Wrong = refuses (number ShareWrong)
 
 abbrev pub ofPlace : Place → Step
 ofPlace (At A) = gives A
-ofPlace Nowhere = refuses 6
+ofPlace Nowhere = refuses (number NoOpenAnchor)
 
 abbrev pub ofPlan : Plan → Step
 ofPlan (PlanAt k A) = places k A
@@ -41,13 +42,13 @@ ofPlan (PlanRefused r) = refuses (number r)
 -- ---- what each step answers
 unfoldable pub intervalStep : ℕ → Step
 unfolding kOf
-intervalStep slots = cond (intervalOutside slots) (refuses 4) (gives (kOf slots))
+intervalStep slots = cond (intervalOutside slots) (refuses (number IntervalOutside)) (gives (kOf slots))
 
 unfoldable pub shareStep : ℕ → ℕ → ℕ → Step
-shareStep floor ceiling F = cond (shareWrong floor ceiling F) (refuses 5) passes
+shareStep floor ceiling F = cond (shareWrong floor ceiling F) (refuses (number ShareWrong)) passes
 
 abbrev pub placeAt : ℕ → Option ℕ → Step
-placeAt k none = refuses 6
+placeAt k none = refuses (number NoOpenAnchor)
 placeAt k (some p) = gives (mirrored k p)
 
 unfoldable pub placeStep : (ℕ → Bool) → ℕ → ℕ → Step
@@ -61,9 +62,9 @@ planStep live taken slots floor ceiling =
     let k = kOf slots in
     let found = firstOpen taken k floor in
     decided
-    (check 2 live
-    ∷ check 4 (intervalOutside slots)
-    ∷ check 5 (shareWrong floor ceiling (2 ^ k))
-    ∷ check 6 (noOpenAnchor found)
+    (check HandleLive live
+    ∷ check IntervalOutside (intervalOutside slots)
+    ∷ check ShareWrong (shareWrong floor ceiling (2 ^ k))
+    ∷ check NoOpenAnchor (noOpenAnchor found)
     ∷ [])
     refuses (places k (mirrored k (Option·getD found 0)))
