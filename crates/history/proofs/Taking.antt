@@ -1,8 +1,9 @@
 -- Demand 1: each request has a result. Of the code: for every input some value of each call's type meets the call's promise.
 use mathlib.Core.Path.{_≡_, refl, sym, ap, _∙_}
+use mathlib.Core.Bool.{Bool}
 use mathlib.Core.List.{List}
 use mathlib.Core.Option.{Option, none, some}
-use Prim.Native.Nat.{ℕ, _^_}
+use Prim.Native.Nat.{ℕ, _+_}
 use Rattle.rules.specs.declared.Refusal.{Refusal}
 use Rattle.rules.specs.declared.Schedule.{Schedule}
 use Rattle.rules.specs.declared.Connection.{Connection}
@@ -25,8 +26,8 @@ use Rattle.rules.specs.Below.{least}
 use Rattle.rules.specs.Good.{Good}
 use Rattle.rules.specs.Admit.{kOf, anchorFor, admitChecks, admitDone, admit}
 use Rattle.rules.specs.Drop.{dropChecks, dropDone, drop}
-use Rattle.rules.specs.Meter.{change}
-use Rattle.rules.specs.Report.{reportAnswer, reportChecks, reportDone, report}
+use Rattle.rules.specs.Meter.{moved, need, target, change}
+use Rattle.rules.specs.Report.{roomToGrow, reportAnswer, reportChecks, reportDone, report}
 use Rattle.rules.specs.Owner.{ownerOr, ownerOf}
 use Rattle.rules.specs.Anchor.{slotsToAnchor, anchorChecks, anchor}
 use Rattle.rules.specs.Image.{image}
@@ -65,10 +66,14 @@ module _ {E : Type 0} (of : E → Answer) (no : Refusal → E) (names : (why : R
 abbrev whole : Outcome → Answer → Outcome
 whole o a = record { answer = a; schedule = o .schedule }
 
+changing : (L aim : ℕ) (room : Bool) → (e : Reporting) × (ofReporting e ≡ change L aim room)
+changing L aim room =
+    change-cases L aim room (λ a. (e : Reporting) × (ofReporting e ≡ a))
+    (λ q. (Kept L, refl)) (λ l. (Shrunk aim, refl)) (λ l q. (Grown (L + 1), refl)) (λ l q. (Tight L, refl))
+
 reporting : (f : ℕ → Bool) (c : Connection) (sample : ℕ) → (e : Reporting) × (ofReporting e ≡ reportAnswer f c sample)
 unfolding reportAnswer
-reporting f c sample =
-    change-cases _ _ _ (λ a. (e : Reporting) × (ofReporting e ≡ a)) (λ q. (Kept _, refl)) (λ l. (Shrunk _, refl)) (λ l q. (Grown _, refl)) (λ l q. (Tight _, refl))
+reporting f c sample = changing (c .length) (target (need (moved (c .estimate) sample)) (c .floor) (c .ceiling)) (roomToGrow f c)
 
 owning : (o : Option ℕ) → (e : Ownership) × (ofOwnership e ≡ ownerOr o)
 owning none = (Idle, refl)
