@@ -9,6 +9,7 @@ use borrow.Author.Tests.{not-true, not-false}
 use Rattle.rules.specs.Load.{handleIn, connectionIn}
 use Rattle.rules.specs.LoadSteps.{records, pieceAt}
 use Rattle.rules.proofs.SoundLaws.{Numbers}
+use Rattle.tree.specs.Promises.{IsTree}
 use Rattle.restore.proofs.Records.{Cursor, cursor-first, cursor-room, cursor-next, record-at}
 use Rattle.restore.proofs.Turns.{Taken, taken-none, taken-tree, turn-numbers, turn-handle, turn-clash, turn-takes, restores-not, restores-all}
 use Rattle.restore.proofs.restore.Statement.{statement}
@@ -62,6 +63,12 @@ numbers-read c =
     let a = c .before .before .before .before .before .before .before in
     turn-numbers (a .args .bytes .now) (a .args .n) (l .i) (c .before .loop-test .taken) (a .pre .1) (c .connection-at .result) (connection-read c)
 
+-- the tree so far is one
+treed : (c : tie.After-connection-at Inv-loop μ-loop) → IsTree (c .before .before .loop .s .tree .bytes)
+treed c =
+    let l = c .before .before .loop in
+    taken-tree (c .before .before .before .before .before .before .before .args .bytes .now) (l .i) (l .s .connections) (l .s .tree .bytes) (l .inv .2)
+
 handle-read : (c : tie.After-handle-at Inv-loop μ-loop)
     → c .handle-at .result ≡ handleIn (pieceAt (c .before .before .before .before .before .before .before .before .before .before .before .before .before .before .before .before .args .bytes .now) (c .before .before .before .before .before .before .before .before .before .before .before .loop .i))
 handle-read c =
@@ -83,15 +90,16 @@ cast-length : tie.Need-cast-length Inv-loop μ-loop
 cast-length c = search needs
 
 run-free-requires : tie.Need-run-free-requires Inv-loop μ-loop
-run-free-requires c κs = omega (arith, numbers-read (c .before .before .before .before))
+run-free-requires c κs =
+    let r = c .before .before .before .before in
+    let n = numbers-read r in
+    (omega arith, omega arith, omega arith, treed r)
 
 set-run-requires : tie.Need-set-run-requires Inv-loop μ-loop
 set-run-requires c κs =
     let r = c .before .before .before .before .before .before .before in
-    let l = r .before .before .loop in
-    let a = r .before .before .before .before .before .before .before .args in
     let n = numbers-read r in
-    (omega arith, omega arith, omega arith, omega arith, taken-tree (a .bytes .now) (l .i) (l .s .connections) (l .s .tree .bytes) (l .inv .2))
+    (omega arith, omega arith, omega arith, omega arith, treed r)
 
 handle-at-requires : tie.Need-handle-at-requires Inv-loop μ-loop
 handle-at-requires c κs = room (c .before .before .before .before .before .before .before .before .before)
