@@ -128,7 +128,7 @@ fn run_free(tree: &[u8; 128], k: u32, anchor: u32, length: u32) -> bool
 /// Check 11: the connections of the records with their tree, taken one after the other on an empty tree; or two of them own one block.
 pub fn restore(bytes: &[u8], n: usize) -> Restored
     requires { ⌜ FramedAt (now bytes) n × (soundPieces 0 (records (now bytes) n) ≡ true) ⌝ }
-    ensures { λ r. ⌜ Restores (records (now (bytes .entry)) n) r ⌝ }
+    ensures { λ r. ⌜ Restores (now (bytes .entry)) n r ⌝ }
 {
     let connections = [nobody(); 64];
     let empty = tree::empty();

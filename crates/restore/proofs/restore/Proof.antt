@@ -1,13 +1,13 @@
 -- `restore::restore` meets its contract. The invariant: the cursor is before record i, and the records before it are taken.
 use borrow.Author.Needs.{needs}
-use mathlib.Core.Path.{_≡_, refl, sym, ap, _∙_, subst}
+use mathlib.Core.Path.{_≡_, refl, sym, ap, _∙_}
 use mathlib.Core.Bool.{true}
-use Prim.Native.Nat.{ℕ, _+_, _-_, _≤_, _<_}
+use Prim.Native.Nat.{_+_, _-_, _≤_, _<_}
 use native.Mathlib.Omega.{arith}
 use lib.ListN.{length}
 use borrow.Author.Tests.{not-true, not-false}
 use Rattle.rules.specs.Load.{handleIn, connectionIn}
-use Rattle.rules.specs.LoadSteps.{records, pieceAt}
+use Rattle.rules.specs.LoadSteps.{pieceAt}
 use Rattle.rules.proofs.SoundLaws.{Numbers}
 use Rattle.tree.specs.Promises.{IsTree}
 use Rattle.restore.proofs.Records.{Cursor, cursor-first, cursor-room, cursor-next, record-at}
@@ -142,9 +142,7 @@ returns : tie.Need-returns Inv-loop μ-loop
 returns c =
     let l = c .before .loop in
     let a = c .before .before .before .before .before .before .args in
-    let q : l .i ≡ a .n = omega arith in
-    restores-all (a .bytes .now) (a .n) (l .s .connections) (l .s .tree .bytes) _ (subst (λ (m : ℕ). Taken (a .bytes .now) m (l .s .connections) (l .s .tree .bytes)) q (l .inv .2))
-    (l .inv .3) refl refl (omega (arith, l .inv .1))
+    restores-all (a .bytes .now) (a .n) (l .i) (l .s .connections) (l .s .tree .bytes) (l .inv .2) _ refl refl (l .inv .1) (omega arith) (l .inv .3)
 
 returns-2 : tie.Need-returns-2 Inv-loop μ-loop
 returns-2 c =
@@ -152,7 +150,7 @@ returns-2 c =
     let r = f .before .before .before .before .before in
     let l = r .before .before .loop in
     let a = r .before .before .before .before .before .before .before in
-    restores-not (records (a .args .bytes .now) (a .args .n)) _ refl
+    restores-not (a .args .bytes .now) (a .args .n) (l .i) (l .s .connections) (l .s .tree .bytes) (l .inv .2) _ refl refl (l .inv .1) (r .before .loop-test .taken) (a .pre .1) refl
     (turn-clash (a .args .bytes .now) (a .args .n) (l .i) (r .before .loop-test .taken) (a .pre .1) (r .connection-at .result) (connection-read r)
     (l .s .connections) (l .s .tree .bytes) (l .inv .2) (λ g e. sym (not-true (f .run-free .result) (c .if1 .taken)) ∙ f .run-free .ensures g e))
 
