@@ -4,7 +4,15 @@ use mathlib.Core.Path.{_≡_}
 use mathlib.Core.List.{List, _++_}
 use lib.ListN.{length, replicate}
 use Rattle.rules.specs.declared.Schedule.{Schedule}
+use Rattle.rules.specs.declared.Admission.{Admission}
+use Rattle.rules.specs.declared.Dropping.{Dropping}
+use Rattle.rules.specs.declared.Reporting.{Reporting}
+use Rattle.rules.specs.declared.Ownership.{Ownership}
+use Rattle.rules.specs.declared.Distance.{Distance}
+use Rattle.rules.specs.declared.Reply.{Reply}
+use Rattle.rules.specs.declared.Reply.the-variants.{Admission as ReplyAdmission, Dropping as ReplyDropping, Reporting as ReplyReporting, Ownership as ReplyOwnership, Distance as ReplyDistance}
 use Rattle.rules.specs.declared.Command.{Command}
+use Rattle.rules.specs.declared.Command.the-variants.{Admit, Drop, Report, Owner, Anchor}
 use Rattle.rules.specs.declared.Obeyed.{Obeyed}
 use Rattle.rules.specs.Good.{Good}
 use Rattle.rules.specs.Answers.{ofObeyed}
@@ -15,9 +23,18 @@ use Rattle.line.specs.Promises.{PutsLine}
 use Rattle.command.specs.declared.Carried.{Carried}
 use Rattle.command.specs.declared.Output.{Output}
 
--- The whole answer and the schedule afterwards are what the rule gives; and the schedule is good again.
+-- The reply is of the command's own kind.
+abbrev pub OwnKind : Command → Reply → Type 0
+OwnKind (Admit handle interval floor ceiling) r = (a : Admission) × (r ≡ ReplyAdmission a)
+OwnKind (Drop handle) r = (a : Dropping) × (r ≡ ReplyDropping a)
+OwnKind (Report handle sample) r = (a : Reporting) × (r ≡ ReplyReporting a)
+OwnKind (Owner block) r = (a : Ownership) × (r ≡ ReplyOwnership a)
+OwnKind (Anchor handle block) r = (a : Distance) × (r ≡ ReplyDistance a)
+
+-- The whole answer and the schedule afterwards are what the rule gives, in a reply of the command's own kind; and the schedule is good again.
 pub record Obeys (s : Schedule) (c : Command) (r : Obeyed) : Type 0 where
   pub is : ofObeyed r ≡ obey s c
+  pub own : OwnKind c (r .reply)
   pub good : Good (r .schedule)
 
 -- A line is carried out: its words are put, and its schedule is left. They are at most four bytes for each of its own.

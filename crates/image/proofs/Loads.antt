@@ -18,14 +18,14 @@ use Rattle.rules.specs.Refusals.{number}
 use Rattle.rules.specs.Answers.{Outcome, refusing, loaded, ofLoaded}
 use Rattle.rules.specs.Bytes.{same}
 use Rattle.rules.specs.Load.{soundPieces, restored, load}
-use Rattle.rules.specs.LoadSteps.{ofFrame, frameStep, pieceAt, records, FramedAt}
-use Rattle.rules.proofs.BelowLaws.{length-tabulate}
+use Rattle.rules.specs.LoadSteps.{ofFrame, frameStep, records, FramedAt}
 use Rattle.rules.proofs.BytesLaws.{AllBytes}
 use Rattle.rules.proofs.TreeLaws.{tree-sized}
 use Rattle.rules.proofs.ImageLaws.{load-good}
 use Rattle.rules.proofs.FrameLaws.{framed-right}
 use Rattle.rules.proofs.LoadLaws.{frame-framed, frame-refuses, load-9, load-10, load-11, load-12, load-ok}
 use Rattle.restore.specs.Promises.{Restores}
+use Rattle.restore.proofs.Calls.{restores-apart}
 use Rattle.image.specs.Promises.{Loads}
 
 schedule-tree : (cs : List Connection) (s : Schedule) → s ≡ scheduleOf cs → s .tree .bytes ≡ treeFor cs
@@ -50,20 +50,20 @@ module _ (s : Schedule) (good : Good s) (bytes : List ℕ) (b : AllBytes bytes) 
     pub unsound : (r : Loaded) → ofLoaded r ≡ refusing s (number NumbersUnsound) → soundPieces 0 (records bytes n) ≡ false → Loads s bytes r
     unsound r e p = loads r (e ∙ load-10 s bytes n (framed-right bytes n b f) p)
 
-    module _ (p : soundPieces 0 (records bytes n) ≡ true) (x : Restored) (t : Restores (records bytes n) x) where
+    module _ (p : soundPieces 0 (records bytes n) ≡ true) (x : Restored) (t : Restores bytes n x) where
       pub owned-twice : (r : Loaded) → ofLoaded r ≡ refusing s (number BlockOwnedTwice) → x .apart ≡ false → Loads s bytes r
       owned-twice r e q = loads r (e ∙ load-11 s bytes n (framed-right bytes n b f) p (sym (t .says) ∙ q))
 
       module _ (q : x .apart ≡ true) where
         pub tree-is : x .schedule .tree .bytes ≡ treeFor (restored (records bytes n))
-        tree-is = schedule-tree (restored (records bytes n)) (x .schedule) (t .is q)
+        tree-is = schedule-tree (restored (records bytes n)) (x .schedule) (restores-apart bytes n x t q .0)
 
         pub tree-long : length (x .schedule .tree .bytes) ≡ 128
         tree-long = ap {B = ℕ} length tree-is ∙ tree-for-long (restored (records bytes n))
 
         -- The payload of the last record.
         pub tree-place : x .end + 4 ≡ 10 + 18 * n
-        tree-place = omega (arith, t .ends q, length-tabulate n (pieceAt bytes))
+        tree-place = omega (arith, restores-apart bytes n x t q .1)
 
         compared : (v : Bool) → same (take 128 (drop (x .end + 4) bytes)) (x .schedule .tree .bytes) ≡ v → same (take 128 (drop (10 + 18 * n) bytes)) (treeFor (restored (records bytes n))) ≡ v
         compared v d = ap₂ (λ (j : ℕ) (tree : List ℕ). same (take 128 (drop j bytes)) tree) (sym tree-place) (sym tree-is) ∙ d
@@ -74,5 +74,5 @@ module _ (s : Schedule) (good : Good s) (bytes : List ℕ) (b : AllBytes bytes) 
         pub accepted : (r : Loaded) → ofLoaded r ≡ record { answer = loaded n; schedule = x .schedule } → same (take 128 (drop (x .end + 4) bytes)) (x .schedule .tree .bytes) ≡ true → Loads s bytes r
         accepted r e d =
             loads r (e
-            ∙ ap (λ (o : Schedule). record { answer = loaded n; schedule = o }) (t .is q)
+            ∙ ap (λ (o : Schedule). record { answer = loaded n; schedule = o }) (restores-apart bytes n x t q .0)
             ∙ load-ok s bytes n (framed-right bytes n b f) p (sym (t .says) ∙ q) (compared true d))

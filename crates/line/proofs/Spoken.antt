@@ -20,7 +20,7 @@ use Rattle.rules.specs.LineSteps.{numbersIn}
 use Rattle.rules.proofs.BytesLaws.{same-exactly}
 use Rattle.rules.proofs.CommandLaws.{says-line, says-bad, numbers-spaced, numbers-only}
 use Rattle.text.specs.declared.Numbers.{Numbers}
-use Rattle.text.specs.Promises.{ofNumbers}
+use Rattle.text.proofs.Rows.{ofNumbers}
 use Rattle.line.specs.Promises.{saysIf}
 
 -- ---- the words

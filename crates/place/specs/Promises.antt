@@ -39,6 +39,10 @@ pub record Stretches (k : ℕ) (taken : ℕ → Bool) (room : List ℕ) : Type 0
 abbrev pub Measures : ℕ → List Bool → List ℕ → Type 0
 Measures k row room = (taken : ℕ → Bool) → Row k taken row → Stretches k taken room
 
+-- The stretches of what some test says is taken.
+abbrev pub IsRoom : ℕ → List ℕ → Type 0
+IsRoom k room = (taken : ℕ → Bool) × Stretches k taken room
+
 -- The first open anchor, by the stretches of what is free.
 abbrev pub Searches : ℕ → ℕ → List ℕ → Place → Type 0
 Searches k floor room r = (taken : ℕ → Bool) → Stretches k taken room → ofPlace r ≡ placeStep taken k floor

@@ -4,7 +4,8 @@ ghost use Prim.Native.Nat.{_<_, _≤_, _^_};
 ghost use lib.ListN.{length};
 ghost use Rattle.rules.specs.Classes.{depth};
 ghost use Rattle.rules.specs.Steps.{ofInterval, ofShare, intervalStep, shareStep};
-ghost use Rattle.place.specs.Promises.{Anchors, Reads, Measures, Searches, Places, Plans, Long};
+ghost use Rattle.tree.specs.Promises.{IsTree};
+ghost use Rattle.place.specs.Promises.{Anchors, Reads, Measures, IsRoom, Searches, Places, Plans, Long};
 use rules::Interval;
 use rules::Place;
 use rules::Plan;
@@ -91,7 +92,7 @@ fn wide(classes: u16) -> u32
 
 // The first anchor in node order whose whole run is free; a run is passed by stretches of free classes.
 fn search(room: &[u16; 512], anchors: &[u16; 512], k: u32, floor: u32) -> Place
-    requires { ⌜ (k ≤ depth) × (floor ≤ 2 ^ k) × Anchors k (now anchors) ⌝ }
+    requires { ⌜ (k ≤ depth) × (floor ≤ 2 ^ k) × Anchors k (now anchors) × IsRoom k (now room) ⌝ }
     ensures { λ r. ⌜ Searches k floor (now (room .entry)) r ⌝ }
 {
     let f = factor(k);
@@ -112,7 +113,7 @@ fn search(room: &[u16; 512], anchors: &[u16; 512], k: u32, floor: u32) -> Place
 
 /// The first open anchor, or none.
 pub fn place(tree: &[u8; 128], k: u32, floor: u32) -> Place
-    requires { ⌜ (k ≤ depth) × (floor ≤ 2 ^ k) ⌝ }
+    requires { ⌜ (k ≤ depth) × (floor ≤ 2 ^ k) × IsTree (now tree) ⌝ }
     ensures { λ r. ⌜ Places k floor (now (tree .entry)) r ⌝ }
 {
     let mut taken = [false; 512];
@@ -125,6 +126,7 @@ pub fn place(tree: &[u8; 128], k: u32, floor: u32) -> Place
 
 /// Where an admission goes, or the number of the first check from 2 on that refuses.
 pub fn plan(tree: &[u8; 128], live: bool, slots: u32, floor: u32, ceiling: u32) -> Plan
+    requires { ⌜ IsTree (now tree) ⌝ }
     ensures { λ r. ⌜ Plans live slots floor ceiling (now (tree .entry)) r ⌝ }
 {
     if live {

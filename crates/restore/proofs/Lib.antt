@@ -1,4 +1,5 @@
--- What the functions' proofs cite.
+-- What the functions' proofs cite, and the laws of the promise.
 mod Records
 mod Runs
 mod Turns
+pub mod Calls

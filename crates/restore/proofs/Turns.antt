@@ -17,14 +17,15 @@ use Rattle.rules.specs.Good.{treeFor, scheduleOf}
 use Rattle.rules.specs.Image.{Piece}
 use Rattle.rules.specs.Load.{handleIn, connectionIn, soundPieces, restored}
 use Rattle.rules.specs.LoadSteps.{pieceAt, records}
-use Rattle.rules.proofs.BelowLaws.{length-tabulate, tabulate-last}
+use Rattle.rules.proofs.BelowLaws.{tabulate-last}
 use Rattle.rules.proofs.SoundLaws.{Numbers}
 use Rattle.rules.proofs.ScheduleLaws.{fresh-tree}
 use Rattle.rules.proofs.RestoreLaws.{numbers-here, handle-here, placed-here, run-apart, run-clash, run-tree, sound-first, clash-first, apart-none}
 use Rattle.tree.specs.Promises.{IsTree}
 use Rattle.run.specs.Promises.{SetsRun}
-use Rattle.restore.specs.Promises.{RunFreeSays, Restores}
+use Rattle.restore.specs.Promises.{RunFreeSays, mostApart, Restores}
 use Rattle.restore.proofs.Records.{Cursor}
+use Rattle.restore.proofs.Calls.{most-all, most-clash}
 
 -- The first i records are taken, and no block belongs to two of them.
 pub record Taken (bytes : List ℕ) (i : ℕ) (cs : List Connection) (tree : List ℕ) : Type 0 where
@@ -56,12 +57,11 @@ module _ (bytes : List ℕ) (n i : ℕ) (l : i < n) (e : soundPieces 0 (records 
         sym (f (taken (restored (records bytes i))) (w .marked)
         ∙ ap (λ (x : Connection). runFree (taken (restored (records bytes i))) (x .k) (x .anchor) (x .length)) ec)
 
-    -- Its run is not free: the records are not apart.
-    pub turn-clash : RunFreeSays (c .k) (c .anchor) (c .length) tree false → apart (restored (records bytes n)) ≡ false
+    -- Its run is not free: it clashes with those before it.
+    pub turn-clash : RunFreeSays (c .k) (c .anchor) (c .length) tree false → apart (restored (records bytes (suc i))) ≡ false
     turn-clash f =
-        clash-first (pieceAt bytes) n (suc i) (omega arith) e
-        (ap (λ (rs : List Piece). apart (restored rs)) (tabulate-last i (pieceAt bytes))
-        ∙ run-clash 0 (records bytes i) (pieceAt bytes i) rises (w .separate) (said false f))
+        ap (λ (rs : List Piece). apart (restored rs)) (tabulate-last i (pieceAt bytes))
+        ∙ run-clash 0 (records bytes i) (pieceAt bytes i) rises (w .separate) (said false f)
 
     -- It is free, and is taken.
     pub turn-takes : (after : List ℕ) (h : ℕ) → h ≡ handleIn (pieceAt bytes i) → RunFreeSays (c .k) (c .anchor) (c .length) tree true
@@ -84,17 +84,22 @@ module _ (bytes : List ℕ) (n i : ℕ) (l : i < n) (e : soundPieces 0 (records 
         })
 
 -- ---- the answers
-pub restores-not : (rs : List Piece) (r : Restored) → r .apart ≡ false → apart (restored rs) ≡ false → Restores rs r
-restores-not rs r p q =
-    let never : r .apart ≡ true → ⊥ = λ t. let z : _≡_ {A = ℕ} 0 1 = cc in omega arith in
-    record { says = p ∙ sym q; is = λ t. absurd (never t); ends = λ t. absurd (never t) }
+module _ (bytes : List ℕ) (n i : ℕ) (cs : List Connection) (tree : List ℕ) (w : Taken bytes i cs tree)
+    (r : Restored) (p : r .schedule .connections ≡ cs) (t : r .schedule .tree .bytes ≡ tree) (at : Cursor i (r .end)) where
+  restores : r .apart ≡ apart (restored (records bytes n)) → mostApart bytes n ≡ i → Restores bytes n r
+  unfolding scheduleOf treeFor
+  restores says m =
+      record {
+        says = says;
+        is = rw m (λ j. record { connections = (p ∙ w .placed) j; tree = record { bytes = (t ∙ w .marked) j } });
+        ends = rw m at;
+      }
 
-pub restores-all : (bytes : List ℕ) (n : ℕ) (cs : List Connection) (tree : List ℕ) (r : Restored) → Taken bytes n cs tree
-    → r .apart ≡ true → r .schedule .connections ≡ cs → r .schedule .tree .bytes ≡ tree → Cursor n (r .end) → Restores (records bytes n) r
-unfolding scheduleOf treeFor
-restores-all bytes n cs tree r w p q t at =
-    record {
-      says = p ∙ sym (w .separate);
-      is = λ _. λ i. record { connections = (q ∙ w .placed) i; tree = record { bytes = (t ∙ w .marked) i } };
-      ends = λ _. omega (arith, at, length-tabulate n (pieceAt bytes));
-    }
+  pub restores-all : i ≡ n → r .apart ≡ true → Restores bytes n r
+  restores-all q a =
+      let all : apart (restored (records bytes n)) ≡ true = rw q at (w .separate) in
+      restores (a ∙ sym all) (most-all bytes n all ∙ sym q)
+
+  pub restores-not : i < n → soundPieces 0 (records bytes n) ≡ true → r .apart ≡ false → apart (restored (records bytes (suc i))) ≡ false → Restores bytes n r
+  restores-not l e a c =
+      restores (a ∙ sym (clash-first (pieceAt bytes) n (suc i) (omega arith) e c)) (most-clash bytes n i l e (w .separate) c)

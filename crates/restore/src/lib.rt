@@ -8,6 +8,7 @@ ghost use Rattle.rules.specs.Sound.{soundNumbers};
 ghost use Rattle.rules.specs.Bytes.{littleNumber};
 ghost use Rattle.rules.specs.Load.{handleIn, connectionIn, soundPieces};
 ghost use Rattle.rules.specs.LoadSteps.{records, FramedAt};
+ghost use Rattle.tree.specs.Promises.{IsTree};
 ghost use Rattle.restore.specs.Promises.{recordAt, Reads, RunFreeSays, Restores};
 use rules::Connection;
 use rules::Restored;
@@ -113,7 +114,7 @@ pub fn records_sound(bytes: &[u8], n: usize) -> bool
 
 // Every class of the run is free.
 fn run_free(tree: &[u8; 128], k: u32, anchor: u32, length: u32) -> bool
-    requires { ⌜ (k ≤ depth) × (anchor < 2 ^ k) × (length ≤ 2 ^ k) ⌝ }
+    requires { ⌜ (k ≤ depth) × (anchor < 2 ^ k) × (length ≤ 2 ^ k) × IsTree (now tree) ⌝ }
     ensures { λ r. ⌜ RunFreeSays k anchor length (now (tree .entry)) r ⌝ }
 {
     for j in 0..length {
@@ -127,7 +128,7 @@ fn run_free(tree: &[u8; 128], k: u32, anchor: u32, length: u32) -> bool
 /// Check 11: the connections of the records with their tree, taken one after the other on an empty tree; or two of them own one block.
 pub fn restore(bytes: &[u8], n: usize) -> Restored
     requires { ⌜ FramedAt (now bytes) n × (soundPieces 0 (records (now bytes) n) ≡ true) ⌝ }
-    ensures { λ r. ⌜ Restores (records (now (bytes .entry)) n) r ⌝ }
+    ensures { λ r. ⌜ Restores (now (bytes .entry)) n r ⌝ }
 {
     let connections = [nobody(); 64];
     let empty = tree::empty();

@@ -32,6 +32,7 @@ use Rattle.rules.proofs.DropLaws.{drop-ok, drop-good}
 use Rattle.rules.proofs.MeterLaws.{change-cases, target-bounds}
 use Rattle.rules.proofs.ReportLaws.{report-ok, report-good}
 use Rattle.rules.proofs.RunLaws.{tree-run-none}
+use Rattle.tree.specs.Promises.{IsTree}
 use Rattle.run.specs.Promises.{SetsRun}
 use Rattle.place.specs.Promises.{Plans}
 use Rattle.schedule.specs.Promises.{takenAfter, Settles, Admits, Drops, Reports}
@@ -40,6 +41,10 @@ use Rattle.schedule.specs.Promises.{takenAfter, Settles, Admits, Drops, 
 scheduled : (cs : List Connection) (bytes : List ℕ) → bytes ≡ treeFor cs → _≡_ {A = Schedule} (record { connections = cs; tree = record { bytes = bytes } }) (scheduleOf cs)
 unfolding scheduleOf
 scheduled cs bytes e = ap (λ (t : List ℕ). record { connections = cs; tree = record { bytes = t } }) e
+
+-- A good schedule's bytes are a tree.
+pub treed : (s : Schedule) → Good s → IsTree (s .tree .bytes)
+treed s good = (taken (s .connections), good-tree s good)
 
 -- ---- admit
 module _ (s : Schedule) (good : Good s) (h i f c : ℕ) where

@@ -23,7 +23,8 @@ use Rattle.rules.proofs.CommandLaws.{says-only, bad-only, numbers-spaced, numbe
 use Rattle.line.proofs.Spoken.{opens-long, firsts}
 use Rattle.rules.specs.Below.{tabulate}
 use Rattle.text.specs.declared.Numbers.{Numbers}
-use Rattle.text.specs.Promises.{Reads}
+use Rattle.text.specs.Promises.{numbersFor}
+use Rattle.text.proofs.Rows.{Reads, reads}
 use Rattle.script.specs.declared.Hex.the-variants.{Bytes, Wrong}
 use Rattle.script.specs.declared.Order.the-variants.{SaveInto, Load, Bad}
 use Rattle.script.specs.Hex.{hex}
@@ -127,7 +128,10 @@ module _ (line : List ℕ) (o : same (take 5 line) (text "save ") ≡ true) wher
           f n l (ap (numbersIn 1) d ∙ numbers-spaced (n ∷ []) (small-fits n l))
 
   -- The same, by the numbers that were read.
-  module _ (n : Numbers) (r : Reads 1 (drop 4 line) n) where
+  module _ (n : Numbers) (e : n ≡ numbersFor (numbersIn 1 (drop 4 line))) where
+    r : Reads 1 (drop 4 line) n
+    r = reads 1 (drop 4 line) n (omega arith) e
+
     one : n .right ≡ true → numbersIn 1 (drop 4 line) ≡ some (getD (n .values) 0 0 ∷ [])
     unfolding tabulate
     one t =

@@ -1,21 +1,22 @@
 -- The numbers of a command, read one after the other.
 use mathlib.Core.Path.{_≡_, refl, sym, ap, _∙_}
-use mathlib.Core.Bool.{cond}
+use mathlib.Core.Bool.{true, cond}
 use mathlib.Core.List.{List, [], _∷_, _++_, append-nil, append-assoc}
-use mathlib.Core.Logic.{_≢_, ⊎-elim}
+use mathlib.Core.Logic.{_≢_}
 use mathlib.Core.Option.{Option, none, some}
 use Prim.Native.Nat.{ℕ, suc, _+_, _-_, _<_, _≤_}
-use native.Mathlib.Nat.{eq-or-lt-of-le}
 use native.Mathlib.Numerals.{add-one}
 use native.Mathlib.Omega.{arith}
-use lib.Dec.{eqb}
-use lib.ListN.{length, getD, take, drop, set, length-drop}
-use lib.Seq.{drop-cons, drop-drop, drop-length, take-suc-set}
+use lib.ListN.{length, getD, take, drop, set, replicate, length-drop, length-set, length-append, length-replicate, take-append-drop}
+use lib.Seq.{drop-cons, drop-drop, drop-length, drop-set-lt, length-take-le, take-at, take-suc-set}
 use borrow.Author.Tests.{eq-eqb, ne-eqb}
 use Rattle.rules.specs.Decimal.{numberIn}
 use Rattle.rules.specs.Split.{before}
 use Rattle.rules.specs.LineSteps.{withFirst, numbersIn}
 use Rattle.rules.proofs.SplitLaws.{before-take, before-le}
+use Rattle.rules.proofs.CommandLaws.{numbers-only}
+use Rattle.text.specs.declared.Numbers.{Numbers}
+use Rattle.text.specs.Promises.{numbersFor}
 
 -- Numbers that are read already, in front of others.
 abbrev pub ahead : List ℕ → Option (List ℕ) → Option (List ℕ)
@@ -66,14 +67,53 @@ ahead-first values i n h (some ms) =
     rw (add-one i, take-suc-set values i n h) (ap {A = List ℕ} {B = Option (List ℕ)} (λ l. some l) (sym (append-assoc (take i values) (n ∷ []) ms)))
 
 -- All are read: nothing may follow.
-pub row-over : (line values : List ℕ) (next : ℕ) → next ≤ length line → (count : ℕ)
-    → cond (eqb next (length line)) (some (take count values)) none ≡ ahead (take count values) (numbersIn 0 (drop next line))
-unfolding numbersIn
-row-over line values next h count =
-    ⊎-elim
-    (λ e. rw (eq-eqb next (length line) e, e, drop-length line) (ap {A = List ℕ} {B = Option (List ℕ)} (λ l. some l) (sym (append-nil (take count values)))))
-    (λ l. rw (ne-eqb next (length line) (λ e. omega (arith, e)), drop-cons line next 0 l))
-    (eq-or-lt-of-le h)
+module _ (line values : List ℕ) (count next : ℕ) {all : Option (List ℕ)} (inv : all ≡ ahead (take count values) (numbersIn 0 (drop next line))) where
+  pub row-more : next < length line → none ≡ all
+  unfolding numbersIn
+  row-more l = sym (rw (drop-cons line next 0 l) at inv)
+
+  pub row-over : next ≡ length line → all ≡ some (take count values)
+  unfolding numbersIn
+  row-over e = (rw (e, drop-length line) at inv) ∙ ap {A = List ℕ} {B = Option (List ℕ)} (λ l. some l) (append-nil (take count values))
+
+-- ---- the values
+-- The first i are numbers, and zeros stand behind them.
+pub record Filled (i : ℕ) (values : List ℕ) : Type 0 where
+  pub sized : length values ≡ 4
+  pub zeros : drop i values ≡ replicate (4 - i) 0
+
+pub filled-more : (i n : ℕ) (values : List ℕ) → i < 4 → Filled i values → Filled (i + 1) (set values i n)
+filled-more i n values h f =
+    record {
+      sized = length-set values i n ∙ f .sized;
+      zeros = drop-set-lt (i + 1) values i n (omega arith) ∙ sym (drop-drop 1 i values) ∙ ap (drop 1) (f .zeros) ∙ ap (λ (k : ℕ). drop 1 (replicate k 0)) (left 4 i h);
+    }
+
+pub filled-all : (count : ℕ) (values : List ℕ) {all : Option (List ℕ)} → count ≤ 4 → Filled count values → all ≡ some (take count values)
+    → record { right = true; values = values } ≡ numbersFor all
+filled-all count values h f e =
+    let n : length (take count values) ≡ count = length-take-le count values (omega (arith, f .sized)) in
+    rw (e, n, ← f .zeros, take-append-drop count values)
+
+-- What a reader of the values asks of them: so many numbers, if they are right.
+abbrev pub ofNumbers : ℕ → Numbers → Option (List ℕ)
+ofNumbers count r = cond (r .right) (some (take count (r .values))) none
+
+pub record Reads (count : ℕ) (rest : List ℕ) (r : Numbers) : Type 0 where
+  pub is : ofNumbers count r ≡ numbersIn count rest
+  pub sized : length (r .values) ≡ 4
+
+pub reads : (count : ℕ) (rest : List ℕ) (r : Numbers) → count ≤ 4 → r ≡ numbersFor (numbersIn count rest) → Reads count rest r
+reads count rest r h e = rw e (by (numbersIn count rest) refl)
+  where
+    by : (o : Option (List ℕ)) → numbersIn count rest ≡ o → Reads count rest (numbersFor o)
+    by none q = record { is = sym q; sized = refl }
+    by (some ns) q =
+        let l = numbers-only count rest ns q .2 in
+        record {
+          is = ap {A = List ℕ} {B = Option (List ℕ)} (λ x. some x) (take-at ns (replicate (4 - length ns) 0) count l) ∙ sym q;
+          sized = simp (length-append, length-replicate) (omega arith);
+        }
 
 -- A turn of the reader: i numbers are read, and one is due at next.
 module _ (line values : List ℕ) (count next i : ℕ) (h : i < count) {all : Option (List ℕ)}

@@ -1,22 +1,17 @@
 -- What the reading and writing of a text promises.
-use Prim.Native.Nat.{ℕ, _+_, _≤_}
+use Prim.Native.Nat.{ℕ, _+_, _-_, _≤_}
 use mathlib.Core.Path.{_≡_}
-use mathlib.Core.Bool.{cond}
-use mathlib.Core.List.{List}
+use mathlib.Core.Bool.{true, false}
+use mathlib.Core.List.{List, _++_}
 use mathlib.Core.Option.{Option, none, some}
-use lib.ListN.{length, take}
+use lib.ListN.{length, replicate}
 use lib.Seq.{sets}
-use Rattle.rules.specs.LineSteps.{numbersIn}
 use Rattle.text.specs.declared.Numbers.{Numbers}
 
--- So many numbers, if they are right.
-abbrev pub ofNumbers : ℕ → Numbers → Option (List ℕ)
-ofNumbers count r = cond (r .right) (some (take count (r .values))) none
-
--- The numbers of a command are read from what is left of a line.
-pub record Reads (count : ℕ) (rest : List ℕ) (r : Numbers) : Type 0 where
-  pub is : ofNumbers count r ≡ numbersIn count rest
-  pub sized : length (r .values) ≡ 4
+-- The numbers that were read, and zeros behind them; or that they are wrong, and zeros.
+abbrev pub numbersFor : Option (List ℕ) → Numbers
+numbersFor none = record { right = false; values = replicate 4 0 }
+numbersFor (some ns) = record { right = true; values = ns ++ replicate (4 - length ns) 0 }
 
 -- Bytes are stored from a place on, all else stays, and next is the place after them.
 pub record Puts (entry : List ℕ) (at : ℕ) (bytes exit : List ℕ) (next : ℕ) : Type 0 where

@@ -13,7 +13,7 @@ pub use writing::put_refused;
 pub use writing::put_word;
 pub use writing::refusal_number;
 
-/// The numbers of a command, if they are right.
+/// The numbers of a command, if they are right; every other value is 0.
 pub struct Numbers {
     pub right: bool,
     pub values: [u32; 4],

@@ -1,12 +1,13 @@
 //! What stands in a text.
 ghost use mathlib.Core.Path.{_≡_};
+ghost use mathlib.Core.Option.{none};
 ghost use Prim.Native.Nat.{_+_, _-_, _≤_};
 ghost use lib.ListN.{length, take, drop};
 ghost use Rattle.rules.specs.Bytes.{same};
 ghost use Rattle.rules.specs.Decimal.{numberIn};
 ghost use Rattle.rules.specs.Split.{before};
-ghost use Rattle.rules.specs.LineSteps.{ofNumber};
-ghost use Rattle.text.specs.Promises.{Reads};
+ghost use Rattle.rules.specs.LineSteps.{ofNumber, numbersIn};
+ghost use Rattle.text.specs.Promises.{numbersFor};
 use crate::Numbers;
 use rules::Number;
 
@@ -77,40 +78,44 @@ fn number(digits: &[u8]) -> Number
     Number::Is(value as u32)
 }
 
+fn wrong() -> Numbers
+    ensures { λ r. ⌜ r ≡ numbersFor none ⌝ }
+{
+    let values = [0u32; 4];
+    Numbers {
+        right: false,
+        values,
+    }
+}
+
 /// The numbers from a place on to the line's end: one space before each, and nothing after the last.
 pub fn numbers_from(line: &[u8], at: usize, count: usize) -> Numbers
     requires { ⌜ (at ≤ length (now line)) × (count ≤ 4) ⌝ }
-    ensures { λ r. ⌜ Reads count (drop at (now (line .entry))) r ⌝ }
+    ensures { λ r. ⌜ r ≡ numbersFor (numbersIn count (drop at (now (line .entry)))) ⌝ }
 {
     let mut values = [0u32; 4];
     let mut next = at;
     for i in 0..count {
         if next == line.len() {
-            return Numbers {
-                right: false,
-                values,
-            };
+            return wrong();
         }
         if line[next] != b' ' {
-            return Numbers {
-                right: false,
-                values,
-            };
+            return wrong();
         }
         let start = next + 1;
         let end = find(line, start, b' ');
         let read = number(&line[start..end]);
         let Number::Is(n) = read else {
-            return Numbers {
-                right: false,
-                values,
-            };
+            return wrong();
         };
         values[i] = n;
         next = end;
     }
+    if next != line.len() {
+        return wrong();
+    }
     Numbers {
-        right: next == line.len(),
+        right: true,
         values,
     }
 }

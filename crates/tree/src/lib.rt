@@ -43,7 +43,7 @@ pub fn is_set(tree: &[u8; 128], n: usize) -> bool
 
 /// Whether the class of r for the factor 2^k is free.
 pub fn is_free(tree: &[u8; 128], k: u32, r: u32) -> bool
-    requires { ⌜ (k ≤ depth) × (r < 2 ^ k) ⌝ }
+    requires { ⌜ (k ≤ depth) × (r < 2 ^ k) × IsTree (now tree) ⌝ }
     ensures { λ b. ⌜ FreeSays k r (now (tree .entry)) b ⌝ }
 {
     !is_set(tree, node(k, r))

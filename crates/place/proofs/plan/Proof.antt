@@ -71,9 +71,9 @@ cast-place c = search needs
 place-requires : tie.Need-place-requires
 place-requires c κs =
     let k = c .before .before .before .before .before in
-    let a = k .before .before .before .before .args in
-    let b = share-bounds (a .floor) (a .ceiling) (2 ^ k .k .given .0 .0) (share-is c) in
-    (k-below k, le-trans (b .1) (b .2))
+    let a = k .before .before .before .before in
+    let b = share-bounds (a .args .floor) (a .args .ceiling) (2 ^ k .k .given .0 .0) (share-is c) in
+    (k-below k, le-trans (b .1) (b .2), a .pre)
 
 enum-known-anchor : tie.Need-enum-known-anchor
 enum-known-anchor c = search needs

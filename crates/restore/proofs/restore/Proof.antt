@@ -1,14 +1,15 @@
 -- `restore::restore` meets its contract. The invariant: the cursor is before record i, and the records before it are taken.
 use borrow.Author.Needs.{needs}
-use mathlib.Core.Path.{_≡_, refl, sym, ap, _∙_, subst}
+use mathlib.Core.Path.{_≡_, refl, sym, ap, _∙_}
 use mathlib.Core.Bool.{true}
-use Prim.Native.Nat.{ℕ, _+_, _-_, _≤_, _<_}
+use Prim.Native.Nat.{_+_, _-_, _≤_, _<_}
 use native.Mathlib.Omega.{arith}
 use lib.ListN.{length}
 use borrow.Author.Tests.{not-true, not-false}
 use Rattle.rules.specs.Load.{handleIn, connectionIn}
-use Rattle.rules.specs.LoadSteps.{records, pieceAt}
+use Rattle.rules.specs.LoadSteps.{pieceAt}
 use Rattle.rules.proofs.SoundLaws.{Numbers}
+use Rattle.tree.specs.Promises.{IsTree}
 use Rattle.restore.proofs.Records.{Cursor, cursor-first, cursor-room, cursor-next, record-at}
 use Rattle.restore.proofs.Turns.{Taken, taken-none, taken-tree, turn-numbers, turn-handle, turn-clash, turn-takes, restores-not, restores-all}
 use Rattle.restore.proofs.restore.Statement.{statement}
@@ -62,6 +63,12 @@ numbers-read c =
     let a = c .before .before .before .before .before .before .before in
     turn-numbers (a .args .bytes .now) (a .args .n) (l .i) (c .before .loop-test .taken) (a .pre .1) (c .connection-at .result) (connection-read c)
 
+-- the tree so far is one
+treed : (c : tie.After-connection-at Inv-loop μ-loop) → IsTree (c .before .before .loop .s .tree .bytes)
+treed c =
+    let l = c .before .before .loop in
+    taken-tree (c .before .before .before .before .before .before .before .args .bytes .now) (l .i) (l .s .connections) (l .s .tree .bytes) (l .inv .2)
+
 handle-read : (c : tie.After-handle-at Inv-loop μ-loop)
     → c .handle-at .result ≡ handleIn (pieceAt (c .before .before .before .before .before .before .before .before .before .before .before .before .before .before .before .before .args .bytes .now) (c .before .before .before .before .before .before .before .before .before .before .before .loop .i))
 handle-read c =
@@ -83,15 +90,16 @@ cast-length : tie.Need-cast-length Inv-loop μ-loop
 cast-length c = search needs
 
 run-free-requires : tie.Need-run-free-requires Inv-loop μ-loop
-run-free-requires c κs = omega (arith, numbers-read (c .before .before .before .before))
+run-free-requires c κs =
+    let r = c .before .before .before .before in
+    let n = numbers-read r in
+    (omega arith, omega arith, omega arith, treed r)
 
 set-run-requires : tie.Need-set-run-requires Inv-loop μ-loop
 set-run-requires c κs =
     let r = c .before .before .before .before .before .before .before in
-    let l = r .before .before .loop in
-    let a = r .before .before .before .before .before .before .before .args in
     let n = numbers-read r in
-    (omega arith, omega arith, omega arith, omega arith, taken-tree (a .bytes .now) (l .i) (l .s .connections) (l .s .tree .bytes) (l .inv .2))
+    (omega arith, omega arith, omega arith, omega arith, treed r)
 
 handle-at-requires : tie.Need-handle-at-requires Inv-loop μ-loop
 handle-at-requires c κs = room (c .before .before .before .before .before .before .before .before .before)
@@ -134,9 +142,7 @@ returns : tie.Need-returns Inv-loop μ-loop
 returns c =
     let l = c .before .loop in
     let a = c .before .before .before .before .before .before .args in
-    let q : l .i ≡ a .n = omega arith in
-    restores-all (a .bytes .now) (a .n) (l .s .connections) (l .s .tree .bytes) _ (subst (λ (m : ℕ). Taken (a .bytes .now) m (l .s .connections) (l .s .tree .bytes)) q (l .inv .2))
-    (l .inv .3) refl refl (omega (arith, l .inv .1))
+    restores-all (a .bytes .now) (a .n) (l .i) (l .s .connections) (l .s .tree .bytes) (l .inv .2) _ refl refl (l .inv .1) (omega arith) (l .inv .3)
 
 returns-2 : tie.Need-returns-2 Inv-loop μ-loop
 returns-2 c =
@@ -144,7 +150,7 @@ returns-2 c =
     let r = f .before .before .before .before .before in
     let l = r .before .before .loop in
     let a = r .before .before .before .before .before .before .before in
-    restores-not (records (a .args .bytes .now) (a .args .n)) _ refl
+    restores-not (a .args .bytes .now) (a .args .n) (l .i) (l .s .connections) (l .s .tree .bytes) (l .inv .2) _ refl refl (l .inv .1) (r .before .loop-test .taken) (a .pre .1) refl
     (turn-clash (a .args .bytes .now) (a .args .n) (l .i) (r .before .loop-test .taken) (a .pre .1) (r .connection-at .result) (connection-read r)
     (l .s .connections) (l .s .tree .bytes) (l .inv .2) (λ g e. sym (not-true (f .run-free .result) (c .if1 .taken)) ∙ f .run-free .ensures g e))
 

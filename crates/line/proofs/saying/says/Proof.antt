@@ -6,6 +6,7 @@ use lib.ListN.{getD}
 use Rattle.rules.specs.declared.Command.the-variants.{Admit, Drop, Report, Owner, Anchor}
 use Rattle.rules.specs.Below.{tabulate}
 use Rattle.rules.specs.Text.{text}
+use Rattle.text.proofs.Rows.{reads}
 use Rattle.line.proofs.Spoken.{opens-long, firsts, word-says, nothing-opens}
 use Rattle.line.proofs.saying.says.Statement.{statement}
 use Rattle.line.proofs.saying.says.Tie as tie
@@ -41,8 +42,9 @@ unfolding tabulate
 returns c =
     let n = c .before .before .before .before .before .numbers-from in
     let v = n .result .values in
+    let r = reads 4 _ (n .result) (omega arith) (n .ensures) in
     c .said .ensures
-    ∙ word-says (c .before .before .before .before .before .before .before .before .before .before .args .line .now) (Admit (getD v 0 0) (getD v 1 0) (getD v 2 0) (getD v 3 0)) (sym (c .before .before .before .before .before .before .before .opens .ensures) ∙ c .before .before .before .before .before .before .if1 .taken) (n .result) (firsts 4 v (omega (arith, n .ensures .sized))) (n .ensures .is)
+    ∙ word-says (c .before .before .before .before .before .before .before .before .before .before .args .line .now) (Admit (getD v 0 0) (getD v 1 0) (getD v 2 0) (getD v 3 0)) (sym (c .before .before .before .before .before .before .before .opens .ensures) ∙ c .before .before .before .before .before .before .if1 .taken) (n .result) (firsts 4 v (omega (arith, r .sized))) (r .is)
 
 slice-aggregate-opens-2 : tie.Need-slice-aggregate-opens-2
 slice-aggregate-opens-2 c = search needs
@@ -66,8 +68,9 @@ unfolding tabulate
 returns-2 c =
     let n = c .before .before .numbers-from2 in
     let v = n .result .values in
+    let r = reads 1 _ (n .result) (omega arith) (n .ensures) in
     c .said2 .ensures
-    ∙ word-says (c .before .before .before .before .before .before .before .before .before .before .args .line .now) (Drop (getD v 0 0)) (sym (c .before .before .before .before .opens2 .ensures) ∙ c .before .before .before .if2 .taken) (n .result) (firsts 1 v (omega (arith, n .ensures .sized))) (n .ensures .is)
+    ∙ word-says (c .before .before .before .before .before .before .before .before .before .before .args .line .now) (Drop (getD v 0 0)) (sym (c .before .before .before .before .opens2 .ensures) ∙ c .before .before .before .if2 .taken) (n .result) (firsts 1 v (omega (arith, r .sized))) (r .is)
 
 slice-aggregate-opens-3 : tie.Need-slice-aggregate-opens-3
 slice-aggregate-opens-3 c = search needs
@@ -94,8 +97,9 @@ unfolding tabulate
 returns-3 c =
     let n = c .before .before .before .numbers-from3 in
     let v = n .result .values in
+    let r = reads 2 _ (n .result) (omega arith) (n .ensures) in
     c .said3 .ensures
-    ∙ word-says (c .before .before .before .before .before .before .before .before .before .before .before .before .before .before .args .line .now) (Report (getD v 0 0) (getD v 1 0)) (sym (c .before .before .before .before .before .opens3 .ensures) ∙ c .before .before .before .before .if3 .taken) (n .result) (firsts 2 v (omega (arith, n .ensures .sized))) (n .ensures .is)
+    ∙ word-says (c .before .before .before .before .before .before .before .before .before .before .before .before .before .before .args .line .now) (Report (getD v 0 0) (getD v 1 0)) (sym (c .before .before .before .before .before .opens3 .ensures) ∙ c .before .before .before .before .if3 .taken) (n .result) (firsts 2 v (omega (arith, r .sized))) (r .is)
 
 slice-aggregate-opens-4 : tie.Need-slice-aggregate-opens-4
 slice-aggregate-opens-4 c = search needs
@@ -119,8 +123,9 @@ unfolding tabulate
 returns-4 c =
     let n = c .before .before .numbers-from4 in
     let v = n .result .values in
+    let r = reads 1 _ (n .result) (omega arith) (n .ensures) in
     c .said4 .ensures
-    ∙ word-says (c .before .before .before .before .before .before .before .before .before .before .before .before .before .before .before .before .args .line .now) (Owner (getD v 0 0)) (sym (c .before .before .before .before .opens4 .ensures) ∙ c .before .before .before .if4 .taken) (n .result) (firsts 1 v (omega (arith, n .ensures .sized))) (n .ensures .is)
+    ∙ word-says (c .before .before .before .before .before .before .before .before .before .before .before .before .before .before .before .before .args .line .now) (Owner (getD v 0 0)) (sym (c .before .before .before .before .opens4 .ensures) ∙ c .before .before .before .if4 .taken) (n .result) (firsts 1 v (omega (arith, r .sized))) (r .is)
 
 slice-aggregate-opens-5 : tie.Need-slice-aggregate-opens-5
 slice-aggregate-opens-5 c = search needs
@@ -147,8 +152,9 @@ unfolding tabulate
 returns-5 c =
     let n = c .before .before .before .numbers-from5 in
     let v = n .result .values in
+    let r = reads 2 _ (n .result) (omega arith) (n .ensures) in
     c .said5 .ensures
-    ∙ word-says (c .before .before .before .before .before .before .before .before .before .before .before .before .before .before .before .before .before .before .before .before .args .line .now) (Anchor (getD v 0 0) (getD v 1 0)) (sym (c .before .before .before .before .before .opens5 .ensures) ∙ c .before .before .before .before .if5 .taken) (n .result) (firsts 2 v (omega (arith, n .ensures .sized))) (n .ensures .is)
+    ∙ word-says (c .before .before .before .before .before .before .before .before .before .before .before .before .before .before .before .before .before .before .before .before .args .line .now) (Anchor (getD v 0 0) (getD v 1 0)) (sym (c .before .before .before .before .before .opens5 .ensures) ∙ c .before .before .before .before .if5 .taken) (n .result) (firsts 2 v (omega (arith, r .sized))) (r .is)
 
 returns-6 : tie.Need-returns-6
 returns-6 c =

@@ -8,9 +8,8 @@ use lib.Pow.{pow-mono}
 use Rattle.rules.specs.Ownership.{taken}
 use Rattle.rules.specs.Handles.{isLive}
 use Rattle.rules.specs.Steps.{places, ofPlan, planStep}
-use Rattle.rules.proofs.ScheduleLaws.{good-tree}
 use Rattle.rules.proofs.PlanLaws.{Planned, planned, planned-free, admit-1}
-use Rattle.schedule.proofs.Exits.{admits, plan-says, admit-refused, admit-made}
+use Rattle.schedule.proofs.Exits.{treed, admits, plan-says, admit-refused, admit-made}
 use Rattle.schedule.proofs.admission.admit.Statement.{statement}
 use Rattle.schedule.proofs.admission.admit.Tie as tie
 
@@ -33,7 +32,7 @@ element-copy-out-old : tie.Need-element-copy-out-old
 element-copy-out-old c = search needs
 
 plan-requires : tie.Need-plan-requires
-plan-requires c κs = search needs
+plan-requires c κs = treed (c .before .before .before .before .args .t1) (c .before .before .before .before .pre)
 
 enum-known-r : tie.Need-enum-known-r
 enum-known-r c = search needs
@@ -64,7 +63,7 @@ set-run-requires c κs =
     let k = c .before .before .before in
     let a = k .before .before .before .before .before .before .before in
     let b = bounds k in
-    (b .deep, b .anchored, omega arith, le-trans (b .floored) (b .whole), (taken (a .args .t1 .connections), good-tree (a .args .t1) (a .pre)))
+    (b .deep, b .anchored, omega arith, le-trans (b .floored) (b .whole), treed (a .args .t1) (a .pre))
 
 mul-c : tie.Need-mul-c
 mul-c c = search needs

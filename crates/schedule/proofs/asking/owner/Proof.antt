@@ -11,6 +11,7 @@ use Rattle.rules.specs.Ownership.{owns, taken}
 use Rattle.rules.specs.Handles.{connection}
 use Rattle.rules.proofs.ScheduleLaws.{good-sound, good-tree}
 use Rattle.rules.proofs.QuestionLaws.{owner-found, owner-none, owner-leaf}
+use Rattle.schedule.proofs.Exits.{treed}
 use Rattle.schedule.proofs.asking.owner.Statement.{statement}
 use Rattle.schedule.proofs.asking.owner.Tie as tie
 
@@ -21,7 +22,7 @@ abbrev μ-loop : tie.MeasureT-loop
 μ-loop block s h₀ h = 64 - h
 
 is-free-requires : tie.Need-is-free-requires Inv-loop μ-loop
-is-free-requires c κs = (search needs, mod-lt _ (omega arith))
+is-free-requires c κs = (search needs, mod-lt _ (omega arith), treed (c .before .before .args .t1) (c .before .before .pre))
 
 returns : tie.Need-returns Inv-loop μ-loop
 returns c =

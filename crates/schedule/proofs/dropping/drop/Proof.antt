@@ -3,12 +3,11 @@ use borrow.Author.Needs.{needs}
 use mathlib.Core.Path.{sym}
 use native.Mathlib.Nat.{le-trans}
 use native.Mathlib.Omega.{arith}
-use Rattle.rules.specs.Ownership.{taken}
 use Rattle.rules.specs.Handles.{connection}
 use Rattle.rules.proofs.SoundLaws.{Numbers}
-use Rattle.rules.proofs.ScheduleLaws.{good-sound, good-tree}
+use Rattle.rules.proofs.ScheduleLaws.{good-sound}
 use Rattle.rules.proofs.DropLaws.{drop-1, drop-3}
-use Rattle.schedule.proofs.Exits.{drops, drop-made}
+use Rattle.schedule.proofs.Exits.{treed, drops, drop-made}
 use Rattle.schedule.proofs.dropping.drop.Statement.{statement}
 use Rattle.schedule.proofs.dropping.drop.Tie as tie
 
@@ -33,7 +32,7 @@ set-run-requires c κs =
     let t = c .before .before .before in
     let a = t .before .before .before in
     let n = numbers t in
-    (n .deep, n .anchored, omega arith, le-trans (n .ceiled) (n .whole), (taken (a .args .t1 .connections), good-tree (a .args .t1) (a .pre)))
+    (n .deep, n .anchored, omega arith, le-trans (n .ceiled) (n .whole), treed (a .args .t1) (a .pre))
 
 nobody-requires : tie.Need-nobody-requires
 nobody-requires c κs = search needs

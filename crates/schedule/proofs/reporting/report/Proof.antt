@@ -6,12 +6,11 @@ use Prim.Native.Nat.{_^_, _≤_}
 use native.Mathlib.Omega.{arith}
 use lib.Pow.{pow-mono}
 use borrow.Author.Tests.{not-true, not-false}
-use Rattle.rules.specs.Ownership.{taken}
 use Rattle.rules.specs.Handles.{connection, isLive}
 use Rattle.rules.proofs.SoundLaws.{Numbers}
-use Rattle.rules.proofs.ScheduleLaws.{good-sound, good-tree}
+use Rattle.rules.proofs.ScheduleLaws.{good-sound}
 use Rattle.rules.proofs.ReportLaws.{report-1, report-3, report-7}
-use Rattle.schedule.proofs.Exits.{reports, report-made, aim-below}
+use Rattle.schedule.proofs.Exits.{treed, reports, report-made, aim-below}
 use Rattle.schedule.proofs.reporting.report.Statement.{statement}
 use Rattle.schedule.proofs.reporting.report.Tie as tie
 
@@ -50,7 +49,7 @@ settle-requires c κs =
     let n = numbers e in (
       n,
       aim-below (connection (a .args .t1) (a .args .handle)) (a .args .sample) (m .result) n (m .ensures),
-      (taken (a .args .t1 .connections), good-tree (a .args .t1) (a .pre)),
+      treed (a .args .t1) (a .pre),
     )
 
 length-of-requires : tie.Need-length-of-requires
