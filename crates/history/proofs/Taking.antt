@@ -26,8 +26,8 @@ use Rattle.rules.specs.Below.{least}
 use Rattle.rules.specs.Good.{Good}
 use Rattle.rules.specs.Admit.{kOf, anchorFor, admitChecks, admitDone, admit}
 use Rattle.rules.specs.Drop.{dropChecks, dropDone, drop}
-use Rattle.rules.specs.Meter.{moved, need, target, change}
-use Rattle.rules.specs.Report.{roomToGrow, reportAnswer, reportChecks, reportDone, report}
+use Rattle.rules.specs.Meter.{change}
+use Rattle.rules.specs.Report.{roomToGrow, aim, reportAnswer, reportChecks, reportDone, report}
 use Rattle.rules.specs.Owner.{ownerOr, ownerOf}
 use Rattle.rules.specs.Anchor.{slotsToAnchor, anchorChecks, anchor}
 use Rattle.rules.specs.Image.{image}
@@ -73,7 +73,7 @@ changing L aim room =
 
 reporting : (f : ℕ → Bool) (c : Connection) (sample : ℕ) → (e : Reporting) × (ofReporting e ≡ reportAnswer f c sample)
 unfolding reportAnswer
-reporting f c sample = changing (c .length) (target (need (moved (c .estimate) sample)) (c .floor) (c .ceiling)) (roomToGrow f c)
+reporting f c sample = changing (c .length) (aim c sample) (roomToGrow f c)
 
 owning : (o : Option ℕ) → (e : Ownership) × (ofOwnership e ≡ ownerOr o)
 owning none = (Idle, refl)

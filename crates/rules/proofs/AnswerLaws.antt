@@ -75,7 +75,7 @@ word (slots n) = 9
 word (saved n) = 10
 word (loaded n) = 11
 
-values : Answer → List ℕ
+unfoldable pub values : Answer → List ℕ
 values (refused n) = n ∷ []
 values (ok F A L) = F ∷ A ∷ L ∷ []
 values dropped = []
@@ -168,6 +168,9 @@ loading-back (LoadingRefused r) = ap LoadingRefused (refusal-back r)
 -- ---- so what a call's statement determines, it determines whole
 pub ownership-injective : (a b : Ownership) → ofOwnership a ≡ ofOwnership b → a ≡ b
 ownership-injective a b e = undone ofOwnership ownershipOf ownership-back e
+
+pub reporting-injective : (a b : Reporting) → ofReporting a ≡ ofReporting b → a ≡ b
+reporting-injective a b e = undone ofReporting reportingOf reporting-back e
 
 pub distance-injective : (a b : Distance) → ofDistance a ≡ ofDistance b → a ≡ b
 distance-injective a b e = undone ofDistance distanceOf distance-back e

@@ -14,8 +14,7 @@ use Rattle.rules.specs.Answers.{Answer, Outcome, refused, refusing}
 use Rattle.rules.specs.Refusals.{number, Check, decided}
 use Rattle.rules.specs.Admit.{kOf, admitChecks, admitDone, admit}
 use Rattle.rules.specs.Drop.{dropChecks, dropDone, drop}
-use Rattle.rules.specs.Meter.{moved, need, target}
-use Rattle.rules.specs.Report.{roomToGrow, reportAnswer, reportChecks, reportDone, report}
+use Rattle.rules.specs.Report.{roomToGrow, aim, reportAnswer, reportChecks, reportDone, report}
 use Rattle.rules.specs.Load.{loadChecks, loadDone, load}
 use Rattle.rules.proofs.RefusalLaws.{decided-cases, decided-map, refused-same, refusal-keeps}
 use Rattle.rules.proofs.BytesLaws.{AllBytes}
@@ -40,7 +39,7 @@ Keeps s o = (n : ℕ) → o .answer ≡ refused n → o .schedule ≡ s
 answered : (f : ℕ → Bool) (c : Connection) (sample n : ℕ) → reportAnswer f c sample ≡ refused n → ⊥
 unfolding reportAnswer
 answered f c sample n =
-    change-cases (c .length) (target (need (moved (c .estimate) sample)) (c .floor) (c .ceiling)) (roomToGrow f c) (λ a. a ≡ refused n → ⊥)
+    change-cases (c .length) (aim c sample) (roomToGrow f c) (λ a M. a ≡ refused n → ⊥)
     (λ q e. let z : _≡_ {A = ℕ} 0 1 = cc in omega arith)
     (λ l e. let z : _≡_ {A = ℕ} 0 1 = cc in omega arith)
     (λ l q e. let z : _≡_ {A = ℕ} 0 1 = cc in omega arith)

@@ -1,7 +1,8 @@
 -- What the rule that moves a meter means.
 use mathlib.Core.Path.{_≡_, refl, ap, _∙_}
-use mathlib.Core.Bool.{Bool, true, false}
+use mathlib.Core.Bool.{Bool, true, false, cond}
 use mathlib.Core.Logic.{by-cases}
+use mathlib.Core.List.{[], _∷_}
 use Prim.Native.Nat.{ℕ, zero, suc, _+_, _-_, _*_, _/_, _<_, _≤_}
 use native.Mathlib.Nat.{zero-mul, suc-mul, mod-lt, div-add-mod'}
 use native.Mathlib.Decide.{decLe, ℕ-discrete}
@@ -11,7 +12,8 @@ use lib.IntN.{ℤ, pos, negsuc, negℤ, _+ℤ_, _-ℤ_, _*ℤ_, +ℤ-one}
 use lib.Signed.{_≤ℤ_, _<ℤ_, leZ-yes, ltZ-yes}
 use borrow.Author.Tests.{lt-ltb, le-ltb, eq-eqb, ne-eqb}
 use Rattle.rules.specs.Answers.{Answer, kept, grown, shrunk, tight}
-use Rattle.rules.specs.Meter.{floorDiv, moved, need, target, change}
+use Rattle.rules.specs.Meter.{floorDiv, moved, need, target, change, newLength}
+use Rattle.rules.proofs.AnswerLaws.{values}
 
 -- ---- division rounded toward minus infinity
 neg-most : (m n : ℕ) → n < m → negℤ (pos m) ≤ℤ negsuc n
@@ -124,15 +126,22 @@ module _ (L aim : ℕ) (room : Bool) where
   unfolding change
   change-tight h e = rw (ne-eqb aim L (omega arith), le-ltb aim L (omega arith), e)
 
-  -- One of the four, and when.
-  pub change-cases {ℓ} : (P : Answer → Type ℓ) → (aim ≡ L → P (kept L)) → (aim < L → P (shrunk aim)) → (L < aim → room ≡ true → P (grown (L + 1))) → (L < aim → room ≡ false → P (tight L)) → P (change L aim room)
+  -- One of the four, and when: the answer, and the length afterwards.
+  pub change-cases {ℓ} : (P : Answer → ℕ → Type ℓ) → (aim ≡ L → P (kept L) L) → (aim < L → P (shrunk aim) aim)
+      → (L < aim → room ≡ true → P (grown (L + 1)) (L + 1)) → (L < aim → room ≡ false → P (tight L) L) → P (change L aim room) (newLength L aim room)
+  unfolding change newLength
   change-cases P k s g t =
       by-cases (ℕ-discrete aim L)
-      (λ e. rw (change-kept e) (k e))
+      (λ e. rw (eq-eqb aim L e) (k e))
       (λ e. by-cases (decLe (suc aim) L)
-      (λ h. rw (change-shrunk h) (s h))
-      (λ h. above (omega arith) room refl))
+      (λ h. rw (ne-eqb aim L e, lt-ltb aim L h) (s h))
+      (λ h. rw (ne-eqb aim L e, le-ltb aim L (omega arith)) (above (omega arith) room refl)))
     where
-      above : L < aim → (v : Bool) → room ≡ v → P (change L aim room)
-      above h true q = rw (change-grown h q) (g h q)
-      above h false q = rw (change-tight h q) (t h q)
+      above : L < aim → (v : Bool) → room ≡ v → P (cond room (grown (L + 1)) (tight L)) (cond room (L + 1) L)
+      above h true q = rw q (g h q)
+      above h false q = rw q (t h q)
+
+  -- The answer names the length afterwards.
+  pub change-names : values (change L aim room) ≡ newLength L aim room ∷ []
+  unfolding values
+  change-names = change-cases (λ a M. values a ≡ M ∷ []) (λ e. refl) (λ h. refl) (λ h e. refl) (λ h e. refl)

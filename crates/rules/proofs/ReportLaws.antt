@@ -1,6 +1,7 @@
 -- What a report means.
 use mathlib.Core.Path.{_≡_, refl, sym, ap, _∙_}
 use mathlib.Core.Bool.{Bool, true, false, not, _&&_, false≢true}
+use mathlib.Core.List.{[], _∷_}
 use mathlib.Core.Logic.{_≢_, by-cases, _↔_, inl, inr}
 use Prim.Native.Nat.{ℕ, _+_, _-_, _*_, _%_, _<_, _≤_}
 use native.Mathlib.Nat.{mod-lt}
@@ -16,16 +17,17 @@ use Rattle.rules.specs.Time.{blockMicros, minusMod}
 use Rattle.rules.specs.Ownership.{factor, at, belongs, owns, taken}
 use Rattle.rules.specs.Classes.{depth}
 use Rattle.rules.specs.Good.{Good, FreeSlotsZero}
-use Rattle.rules.specs.Answers.{Outcome, refusing, grown, lengthIn}
+use Rattle.rules.specs.Answers.{Outcome, refusing, grown}
 use Rattle.rules.specs.Handles.{connection, isLive}
 use Rattle.rules.specs.Refusals.{number}
-use Rattle.rules.specs.Meter.{moved, need, target, change}
-use Rattle.rules.specs.Report.{roomToGrow, metered, reportChecks, reportAnswer, reportDone, report}
+use Rattle.rules.specs.Meter.{moved, need, change, newLength}
+use Rattle.rules.specs.Report.{roomToGrow, metered, reportChecks, aim, reportAnswer, reportLength, reportDone, report}
 use Rattle.rules.proofs.BoolLaws.{both, is-false}
 use Rattle.rules.proofs.EndlessTime.{minusMod-back}
 use Rattle.rules.proofs.SoundLaws.{Numbers, class-free-ever}
 use Rattle.rules.proofs.ScheduleLaws.{others, others-at, others-apart, inside, good-sound, set-good, set-zero, set-other, set-same}
-use Rattle.rules.proofs.MeterLaws.{moved-most, need-holds, target-bounds, target-enough, target-next, change-grown, change-cases}
+use Rattle.rules.proofs.MeterLaws.{moved-most, need-holds, target-bounds, target-enough, target-next, change-grown, change-cases, change-names}
+use Rattle.rules.proofs.AnswerLaws.{values}
 use Rattle.rules.proofs.RefusalLaws.{FirstRefusal, decided-cases, decided-first, decided-passed}
 
 -- ---- each exit
@@ -75,25 +77,22 @@ module _ (s : Schedule) (good : Good s) (h sample : ℕ) (r : Reportable s h sam
   pub estimate-most : moved (connection s h .estimate) sample ≤ connection s h .length * 7500
   estimate-most = moved-most (connection s h .estimate) sample (connection s h .length * 7500) (old-numbers .metered) (r .used)
 
-  abbrev pub aim : ℕ
-  aim = target (need (moved (connection s h .estimate) sample)) (connection s h .floor) (connection s h .ceiling)
-
   -- "Above L (it is then L + 1)."
-  pub aim-next : aim ≤ connection s h .length + 1
+  pub aim-next : aim (connection s h) sample ≤ connection s h .length + 1
   aim-next = target-next (moved (connection s h .estimate) sample) (connection s h .length) (connection s h .floor) (connection s h .ceiling) estimate-most (old-numbers .floored)
 
   -- Whatever the answer, the new length lies between floor and ceiling and holds the new estimate.
   length-right : (room : Bool)
-      → (connection s h .floor ≤ lengthIn (change (connection s h .length) aim room))
-      × (lengthIn (change (connection s h .length) aim room) ≤ connection s h .ceiling)
-      × (moved (connection s h .estimate) sample ≤ lengthIn (change (connection s h .length) aim room) * 7500)
+      → (connection s h .floor ≤ newLength (connection s h .length) (aim (connection s h) sample) room)
+      × (newLength (connection s h .length) (aim (connection s h) sample) room ≤ connection s h .ceiling)
+      × (moved (connection s h .estimate) sample ≤ newLength (connection s h .length) (aim (connection s h) sample) room * 7500)
   length-right room =
       let c = connection s h in
       let e = moved (c .estimate) sample in
       let n = old-numbers in
       let most : e ≤ c .length * 7500 = estimate-most in
       let b = target-bounds (need e) (c .floor) (c .ceiling) (omega arith) in
-      change-cases (c .length) aim room (λ a. (c .floor ≤ lengthIn a) × (lengthIn a ≤ c .ceiling) × (e ≤ lengthIn a * 7500))
+      change-cases (c .length) (aim c sample) room (λ a M. (c .floor ≤ M) × (M ≤ c .ceiling) × (e ≤ M * 7500))
       (λ q. (n .floored, n .ceiled, most))
       (λ l. (b .0, b .1, omega (arith, target-enough (need e) (c .floor) (c .ceiling) (omega arith), need-holds e)))
       (λ l q. (omega arith, omega arith, omega arith))
@@ -101,10 +100,10 @@ module _ (s : Schedule) (good : Good s) (h sample : ℕ) (r : Reportable s h sam
 
   -- The connection afterwards.
   abbrev pub new : Connection
-  new = metered (connection s h) (lengthIn (reportAnswer (taken (s .connections)) (connection s h) sample)) (moved (connection s h .estimate) sample)
+  new = metered (connection s h) (reportLength (taken (s .connections)) (connection s h) sample) (moved (connection s h .estimate) sample)
 
   new-numbers : Numbers new
-  unfolding reportAnswer
+  unfolding reportLength
   new-numbers =
       let n = old-numbers in
       let w = length-right (roomToGrow (taken (s .connections)) (connection s h)) in
@@ -112,16 +111,16 @@ module _ (s : Schedule) (good : Good s) (h sample : ℕ) (r : Reportable s h sam
 
   -- A block of the new run is one of the old run, or one of the class that is free.
   new-apart : (b : ℕ) → owns new b ≡ true → others (s .connections) h b ≡ false
-  unfolding reportAnswer owns belongs
+  unfolding reportLength owns belongs
   new-apart b =
       let c = connection s h in
       let o = minusMod b (c .anchor) (factor c) in
       let mine : o < c .length → others (s .connections) h b ≡ false =
       λ l. others-apart (s .connections) h (inside s good h (r .handle)) (good-sound s good) b (rw (r .live) (lt-ltb o (c .length) l)) in
-      change-cases (c .length) aim (roomToGrow (taken (s .connections)) c)
-      (λ a. c .live && ltb o (lengthIn a) ≡ true → others (s .connections) h b ≡ false)
+      change-cases (c .length) (aim c sample) (roomToGrow (taken (s .connections)) c)
+      (λ a M. c .live && ltb o M ≡ true → others (s .connections) h b ≡ false)
       (λ q e. mine (ltb-true o (c .length) (both (c .live) _ e .1)))
-      (λ l e. mine (omega (arith, ltb-true o aim (both (c .live) _ e .1))))
+      (λ l e. mine (omega (arith, ltb-true o (aim c sample) (both (c .live) _ e .1))))
       (λ l q e.
       by-cases (ℕ-discrete o (c .length))
       (λ x.
@@ -131,10 +130,10 @@ module _ (s : Schedule) (good : Good s) (h sample : ℕ) (r : Reportable s h sam
       (λ x. mine (omega (arith, ltb-true o (c .length + 1) (both (c .live) _ e .1)))))
       (λ l q e. mine (ltb-true o (c .length) (both (c .live) _ e .1)))
 
-pub answer-is : (s : Schedule) (good : Good s) (h sample : ℕ) (r : Reportable s h sample)
-    → report s h sample .answer ≡ change (connection s h .length) (aim s good h sample r) (roomToGrow (taken (s .connections)) (connection s h))
+pub answer-is : (s : Schedule) (h sample : ℕ) → Reportable s h sample
+    → report s h sample .answer ≡ change (connection s h .length) (aim (connection s h) sample) (roomToGrow (taken (s .connections)) (connection s h))
 unfolding reportDone reportAnswer
-answer-is s good h sample r = ap (λ (o : Outcome). o .answer) (report-ok s h sample (r .handle) (r .live) (r .used))
+answer-is s h sample r = ap (λ (o : Outcome). o .answer) (report-ok s h sample (r .handle) (r .live) (r .used))
 
 module _ (s : Schedule) (good : Good s) (h sample : ℕ) where
   -- A report leaves a good schedule.
@@ -151,33 +150,34 @@ module _ (s : Schedule) (good : Good s) (h sample : ℕ) where
   unfolding reportDone
   report-others j n = report-cases s h sample (λ o. connection (o .schedule) j ≡ connection s j) (λ m. refl) (λ r. set-other s good h (r .handle) (new s good h sample r) j n)
 
-  -- Where it is carried out, the connection has the length that the answer names, and the new estimate; nothing else of it changes.
-  pub report-stored : Reportable s h sample
-      → connection (report s h sample .schedule) h ≡ metered (connection s h) (lengthIn (report s h sample .answer)) (moved (connection s h .estimate) sample)
+  -- Where it is carried out, the connection has the new length and the new estimate, and nothing else of it changes;
+  pub report-stored : (r : Reportable s h sample) → connection (report s h sample .schedule) h ≡ new s good h sample r
   unfolding reportDone
-  report-stored r = ap (λ (o : Outcome). connection (o .schedule) h) e ∙ stored ∙ ap (λ (o : Outcome). metered (connection s h) (lengthIn (o .answer)) (moved (connection s h .estimate) sample)) (sym e)
-    where
-      e : report s h sample ≡ reportDone s h sample
-      e = report-ok s h sample (r .handle) (r .live) (r .used)
+  report-stored r = ap (λ (o : Outcome). connection (o .schedule) h) (report-ok s h sample (r .handle) (r .live) (r .used)) ∙ set-same s good h (r .handle) (new s good h sample r)
 
-      stored : connection (reportDone s h sample .schedule) h ≡ metered (connection s h) (lengthIn (reportDone s h sample .answer)) (moved (connection s h .estimate) sample)
-      stored = set-same s good h (r .handle) (new s good h sample r)
+  -- and the answer names that length.
+  pub report-names : Reportable s h sample → values (report s h sample .answer) ≡ connection (report s h sample .schedule) h .length ∷ []
+  unfolding reportLength
+  report-names r =
+      ap values (answer-is s h sample r)
+      ∙ change-names (connection s h .length) (aim (connection s h) sample) (roomToGrow (taken (s .connections)) (connection s h))
+      ∙ ap (λ (c : Connection). c .length ∷ []) (sym (report-stored r))
 
 -- Growth is given exactly if the target is above L and no block of the class of (A + L) mod F belongs to a live connection.
 pub grown-exactly : (s : Schedule) (good : Good s) (h sample : ℕ) (r : Reportable s h sample)
     → (report s h sample .answer ≡ grown (connection s h .length + 1))
-    ↔ ((connection s h .length < aim s good h sample r)
+    ↔ ((connection s h .length < aim (connection s h) sample)
     × ((b j : ℕ) → b % factor (connection s h) ≡ (connection s h .anchor + connection s h .length) % factor (connection s h) → owns (at (s .connections) j) b ≡ false))
 grown-exactly s good h sample r =
     let c = connection s h in
     let f = taken (s .connections) in
-    let e : report s h sample .answer ≡ change (c .length) (aim s good h sample r) (roomToGrow f c) = answer-is s good h sample r in
+    let e : report s h sample .answer ≡ change (c .length) (aim c sample) (roomToGrow f c) = answer-is s h sample r in
     let ever = room-ever s good c (old-numbers s good h sample r .deep) in
-    (λ q. to c (aim s good h sample r) (roomToGrow f c) (sym e ∙ q) (ever .0), λ w. e ∙ change-grown (c .length) (aim s good h sample r) (roomToGrow f c) (w .0) (ever .1 (w .1)))
+    (λ q. to c (aim c sample) (roomToGrow f c) (sym e ∙ q) (ever .0), λ w. e ∙ change-grown (c .length) (aim c sample) (roomToGrow f c) (w .0) (ever .1 (w .1)))
   where
     to : (c : Connection) (a : ℕ) (room : Bool) {X : Type 0} → change (c .length) a room ≡ grown (c .length + 1) → (room ≡ true → X) → (c .length < a) × X
     to c a room {X} =
-        change-cases (c .length) a room (λ x. x ≡ grown (c .length + 1) → (room ≡ true → X) → (c .length < a) × X)
+        change-cases (c .length) a room (λ x M. x ≡ grown (c .length + 1) → (room ≡ true → X) → (c .length < a) × X)
         (λ q e k. let z : _≡_ {A = ℕ} 0 1 = cc in absurd (omega arith))
         (λ l e k. let z : _≡_ {A = ℕ} 0 1 = cc in absurd (omega arith))
         (λ l q e k. (l, k q))

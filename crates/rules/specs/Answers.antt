@@ -45,21 +45,6 @@ pub record Outcome : Type 0 where
 abbrev pub refusing : Schedule → ℕ → Outcome
 refusing s n = record { answer = refused n; schedule = s }
 
--- The length that a report's answer names.
-abbrev pub lengthIn : Answer → ℕ
-lengthIn (refused n) = 0
-lengthIn (ok F A L) = L
-lengthIn dropped = 0
-lengthIn (kept L) = L
-lengthIn (grown L) = L
-lengthIn (shrunk L) = L
-lengthIn (tight L) = L
-lengthIn (owner h) = 0
-lengthIn idle = 0
-lengthIn (slots n) = 0
-lengthIn (saved n) = 0
-lengthIn (loaded n) = 0
-
 -- ---- the sheet's number and values for every case of every enum
 abbrev pub ofAdmission : Admission → Answer
 ofAdmission (Placed F A L) = ok F A L

@@ -25,13 +25,21 @@ need e = (e + guardMicros + (blockMicros - 1)) / blockMicros
 abbrev pub target : ℕ → ℕ → ℕ → ℕ
 target needed floor ceiling = min (max needed floor) ceiling
 
+-- The target once a sample has moved the estimate.
+abbrev pub aimed : ℕ → ℕ → ℕ → ℕ → ℕ
+aimed estimate sample floor ceiling = target (need (moved estimate sample)) floor ceiling
+
 -- The meter moved by a sample: the new estimate, with the length that it aims at.
 unfoldable pub movedMeter : Meter → ℕ → ℕ → ℕ → Meter
 unfolding moved
 movedMeter m sample floor ceiling =
-    record { estimate = moved (m .estimate) sample; length = target (need (moved (m .estimate) sample)) floor ceiling }
+    record { estimate = moved (m .estimate) sample; length = aimed (m .estimate) sample floor ceiling }
 
 -- "Target equal to L: kept. Below L: shrunk to the target, the last blocks given back. Above L (it is then L + 1): grown,
 -- if the class of (A + L) mod F is free, otherwise tight with L unchanged."
 unfoldable pub change : ℕ → ℕ → Bool → Answer
 change L aim room = cond (eqb aim L) (kept L) (cond (ltb aim L) (shrunk aim) (cond room (grown (L + 1)) (tight L)))
+
+-- The length afterwards: kept, L; shrunk, the target; grown, L + 1; tight, "L unchanged".
+unfoldable pub newLength : ℕ → ℕ → Bool → ℕ
+newLength L aim room = cond (eqb aim L) L (cond (ltb aim L) aim (cond room (L + 1) L))

@@ -12,9 +12,9 @@ use Rattle.rules.specs.Ownership.{factor, taken}
 use Rattle.rules.specs.Classes.{free}
 use Rattle.rules.specs.Good.{scheduleOf}
 use Rattle.rules.specs.Refusals.{Check, check, decided}
-use Rattle.rules.specs.Answers.{Answer, Outcome, refusing, lengthIn}
+use Rattle.rules.specs.Answers.{Answer, Outcome, refusing}
 use Rattle.rules.specs.Handles.{connection, aboveHandles, notLive}
-use Rattle.rules.specs.Meter.{moved, need, target, change}
+use Rattle.rules.specs.Meter.{moved, aimed, change, newLength}
 
 -- 7: "sample above L × 7,500"
 abbrev pub sampleAbove : Connection → ℕ → Bool
@@ -37,20 +37,27 @@ reportChecks s handle sample =
     ∷ check SampleAboveRun (sampleAbove (connection s handle) sample)
     ∷ []
 
--- What a report of the sample says of connection c.
+-- The target of connection c after a sample.
+abbrev pub aim : Connection → ℕ → ℕ
+aim c sample = aimed (c .estimate) sample (c .floor) (c .ceiling)
+
+-- What a report of the sample says of connection c, and the length that it leaves.
 unfoldable pub reportAnswer : (ℕ → Bool) → Connection → ℕ → Answer
 unfolding moved change roomToGrow
-reportAnswer taken c sample =
-    change (c .length) (target (need (moved (c .estimate) sample)) (c .floor) (c .ceiling)) (roomToGrow taken c)
+reportAnswer taken c sample = change (c .length) (aim c sample) (roomToGrow taken c)
+
+unfoldable pub reportLength : (ℕ → Bool) → Connection → ℕ → ℕ
+unfolding moved newLength roomToGrow
+reportLength taken c sample = newLength (c .length) (aim c sample) (roomToGrow taken c)
 
 -- "The new estimate is stored in all four."
 unfoldable pub reportDone : Schedule → ℕ → ℕ → Outcome
-unfolding reportAnswer taken moved scheduleOf
+unfolding reportAnswer reportLength taken moved scheduleOf
 reportDone s handle sample =
     let c = connection s handle in
-    let answer = reportAnswer (taken (s .connections)) c sample in
-    let after = scheduleOf (set (s .connections) handle (metered c (lengthIn answer) (moved (c .estimate) sample))) in
-    record { answer = answer; schedule = after }
+    let blocks = taken (s .connections) in
+    let after = scheduleOf (set (s .connections) handle (metered c (reportLength blocks c sample) (moved (c .estimate) sample))) in
+    record { answer = reportAnswer blocks c sample; schedule = after }
 
 unfoldable pub report : Schedule → ℕ → ℕ → Outcome
 unfolding reportDone decided

@@ -2,7 +2,7 @@
 use mathlib.Core.Path.{_≡_, refl, sym, ap, ap₂, _∙_, subst}
 use mathlib.Core.Bool.{Bool, true, false}
 use mathlib.Core.List.{List}
-use Prim.Native.Nat.{ℕ, _+_, _*_, _^_, _<_, _≤_}
+use Prim.Native.Nat.{ℕ, _+_, _*_, _^_, _≤_}
 use native.Mathlib.Omega.{arith}
 use lib.ListN.{set}
 use Rattle.rules.specs.declared.Connection.{Connection}
@@ -11,21 +11,22 @@ use Rattle.rules.specs.declared.Admitted.{Admitted}
 use Rattle.rules.specs.declared.Dropped.{Dropped}
 use Rattle.rules.specs.declared.Reported.{Reported}
 use Rattle.rules.specs.declared.Reporting.{Reporting}
-use Rattle.rules.specs.declared.Reporting.the-variants.{Kept, Grown, Shrunk, Tight, Refused as ReportingRefused}
+use Rattle.rules.specs.declared.Reporting.the-variants.{Kept, Grown, Shrunk, Tight}
 use Rattle.rules.specs.declared.Meter.{Meter}
 use Rattle.rules.specs.declared.Plan.{Plan}
 use Rattle.rules.specs.Ownership.{nobody, taken}
 use Rattle.rules.specs.Good.{Good, scheduleOf, treeFor}
 use Rattle.rules.specs.TreeBytes.{treeOf}
-use Rattle.rules.specs.Answers.{Answer, Outcome, ok, dropped, kept, grown, shrunk, tight, refusing, lengthIn, ofAdmitted, ofDropped, ofReporting, ofReported}
+use Rattle.rules.specs.Answers.{Answer, Outcome, ok, dropped, refusing, ofAdmitted, ofDropped, ofReporting, ofReported}
 use Rattle.rules.specs.Handles.{connection, isLive}
 use Rattle.rules.specs.Admit.{newConnection, admit}
 use Rattle.rules.specs.Drop.{dropDone, drop}
-use Rattle.rules.specs.Meter.{moved, need, target, movedMeter, change}
-use Rattle.rules.specs.Report.{roomToGrow, metered, reportAnswer, reportDone, report}
+use Rattle.rules.specs.Meter.{moved, need, movedMeter, change, newLength}
+use Rattle.rules.specs.Report.{roomToGrow, metered, aim, reportAnswer, reportLength, reportDone, report}
 use Rattle.rules.specs.Steps.{places, refuses, ofPlan, planStep}
 use Rattle.rules.proofs.SoundLaws.{Numbers}
 use Rattle.rules.proofs.ScheduleLaws.{inside, good-tree, good-sound, longer-tree, shorter-tree, live-runs, dead-runs}
+use Rattle.rules.proofs.AnswerLaws.{reporting-injective}
 use Rattle.rules.proofs.AdmitLaws.{admit-good}
 use Rattle.rules.proofs.PlanLaws.{carry, admit-plan}
 use Rattle.rules.proofs.DropLaws.{drop-ok, drop-good}
@@ -35,7 +36,7 @@ use Rattle.rules.proofs.RunLaws.{tree-run-none}
 use Rattle.tree.specs.Promises.{IsTree}
 use Rattle.run.specs.Promises.{SetsRun}
 use Rattle.place.specs.Promises.{Plans}
-use Rattle.schedule.specs.Promises.{takenAfter, Settles, Admits, Drops, Reports}
+use Rattle.schedule.specs.Promises.{takenAfter, lengthIn, Settles, Admits, Drops, Reports}
 
 -- The connections with these bytes are their schedule, where the bytes are their tree.
 scheduled : (cs : List Connection) (bytes : List ℕ) → bytes ≡ treeFor cs → _≡_ {A = Schedule} (record { connections = cs; tree = record { bytes = bytes } }) (scheduleOf cs)
@@ -90,24 +91,6 @@ module _ (s : Schedule) (good : Good s) (h : ℕ) where
       ∙ sym (drop-ok s h b q)
 
 -- ---- report
--- What an answer says of the length that was L.
-abbrev Says : ℕ → Answer → Type 0
-Says L (Answer.refused n) = ⊥
-Says L (ok F A M) = ⊥
-Says L dropped = ⊥
-Says L (kept M) = M ≡ L
-Says L (grown M) = M ≡ L + 1
-Says L (shrunk M) = M < L
-Says L (tight M) = M ≡ L
-Says L (Answer.owner h) = ⊥
-Says L Answer.idle = ⊥
-Says L (Answer.slots n) = ⊥
-Says L (Answer.saved n) = ⊥
-Says L (Answer.loaded n) = ⊥
-
-change-says : (L aim : ℕ) (room : Bool) → Says L (change L aim room)
-change-says L aim room = change-cases L aim room (Says L) (λ e. refl) (λ h. h) (λ h e. refl) (λ h e. refl)
-
 -- The length aimed at is at most the ceiling.
 pub aim-below : (c : Connection) (sample : ℕ) (m : Meter) → Numbers c
     → m ≡ movedMeter (record { estimate = c .estimate; length = c .length }) sample (c .floor) (c .ceiling) → m .length ≤ c .ceiling
@@ -120,41 +103,44 @@ module _ (s : Schedule) (good : Good s) (h sample : ℕ) where
   reports r e = record { is = e; good = subst Good (sym (ap (λ (o : Outcome). o .schedule) e)) (report-good s good h sample) }
 
   module _ (b : h ≤ 63) (q : isLive s h ≡ true) where
-    unmoved : (M e : ℕ) → M ≡ connection s h .length → treeOf (taken (s .connections)) ≡ treeFor (set (s .connections) h (metered (connection s h) M e))
-    unmoved M e w =
+    unmoved : (e : ℕ) → treeOf (taken (s .connections)) ≡ treeFor (set (s .connections) h (metered (connection s h) (connection s h .length) e))
+    unmoved e =
         tree-run-none (connection s h .k) (connection s h .anchor) (connection s h .length) (taken (s .connections)) true
-        ∙ longer-tree (s .connections) h _ _ (connection s h .length) (connection s h .length) (inside s good h b) (live-runs (connection s h) q) (metered (connection s h) M e) (rw (← w) (live-runs (metered (connection s h) M e) q)) (omega arith)
+        ∙ longer-tree (s .connections) h _ _ (connection s h .length) (connection s h .length) (inside s good h b) (live-runs (connection s h) q) (metered (connection s h) (connection s h .length) e) (live-runs (metered (connection s h) (connection s h .length) e) q) (omega arith)
 
-    -- The tree that follows the answer is that of the connection with its new length.
-    settled : (r : Reporting) (e : ℕ) (bytes : List ℕ) → Says (connection s h .length) (ofReporting r)
+    -- The answer has the new length, and the tree that follows it is that of the connection with this length.
+    settled : (r : Reporting) (aim e : ℕ) (room : Bool) (bytes : List ℕ) → ofReporting r ≡ change (connection s h .length) aim room
         → bytes ≡ treeOf (takenAfter (connection s h) r (taken (s .connections)))
-        → bytes ≡ treeFor (set (s .connections) h (metered (connection s h) (lengthIn (ofReporting r)) e))
-    settled (Kept M) e bytes w t = t ∙ unmoved M e w
-    settled (Grown M) e bytes w t =
-        t ∙ longer-tree (s .connections) h _ _ (connection s h .length) M (inside s good h b) (live-runs (connection s h) q) (metered (connection s h) M e) (live-runs (metered (connection s h) M e) q) (omega arith)
-    settled (Shrunk M) e bytes w t =
-        t ∙ shorter-tree (s .connections) h _ _ (connection s h .length) M (inside s good h b) (live-runs (connection s h) q) (metered (connection s h) M e) (live-runs (metered (connection s h) M e) q) (good-sound s good) (omega arith)
-    settled (Tight M) e bytes w t = t ∙ unmoved M e w
-    settled (ReportingRefused r) e bytes w t = absurd w
+        → (lengthIn r ≡ newLength (connection s h .length) aim room)
+        × (bytes ≡ treeFor (set (s .connections) h (metered (connection s h) (newLength (connection s h .length) aim room) e)))
+    settled r aim e room bytes =
+        let c = connection s h in
+        let tree : Reporting → List ℕ = λ x. treeOf (takenAfter c x (taken (s .connections))) in
+        change-cases (c .length) aim room (λ a M. ofReporting r ≡ a → bytes ≡ tree r → (lengthIn r ≡ M) × (bytes ≡ treeFor (set (s .connections) h (metered c M e))))
+        (λ l a t. let w = reporting-injective r (Kept (c .length)) a in (ap lengthIn w, t ∙ ap tree w ∙ unmoved e))
+        (λ l a t.
+        let w = reporting-injective r (Shrunk aim) a in
+        (ap lengthIn w, t ∙ ap tree w ∙ shorter-tree (s .connections) h _ _ (c .length) aim (inside s good h b) (live-runs c q) (metered c aim e) (live-runs (metered c aim e) q) (good-sound s good) (omega arith)))
+        (λ l o a t.
+        let w = reporting-injective r (Grown (c .length + 1)) a in
+        (ap lengthIn w, t ∙ ap tree w ∙ longer-tree (s .connections) h _ _ (c .length) (c .length + 1) (inside s good h b) (live-runs c q) (metered c (c .length + 1) e) (live-runs (metered c (c .length + 1) e) q) (omega arith)))
+        (λ l o a t. let w = reporting-injective r (Tight (c .length)) a in (ap lengthIn w, t ∙ ap tree w ∙ unmoved e))
 
     pub report-made : sample ≤ connection s h .length * 7500 → (m : Meter) (r : Reporting) (bytes : List ℕ) (n : ℕ) (new : Connection)
         → m ≡ movedMeter (record { estimate = connection s h .estimate; length = connection s h .length }) sample (connection s h .floor) (connection s h .ceiling)
         → Settles (connection s h) (m .length) (s .tree .bytes) bytes r
-        → n ≡ lengthIn (ofReporting r) → new ≡ metered (connection s h) n (m .estimate)
+        → n ≡ lengthIn r → new ≡ metered (connection s h) n (m .estimate)
         → _≡_ {A = Outcome} (record { answer = ofReporting r; schedule = record { connections = set (s .connections) h new; tree = record { bytes = bytes } } }) (report s h sample)
-    unfolding reportDone reportAnswer movedMeter
+    unfolding reportDone reportAnswer reportLength movedMeter
     report-made u m r bytes n new em st en ew =
         let c = connection s h in
         let f = taken (s .connections) in
         let e = moved (c .estimate) sample in
-        let aim : m .length ≡ target (need e) (c .floor) (c .ceiling) = ap (λ (x : Meter). x .length) em in
-        let est : m .estimate ≡ e = ap (λ (x : Meter). x .estimate) em in
-        let a : ofReporting r ≡ change (c .length) (target (need e) (c .floor) (c .ceiling)) (roomToGrow f c) =
-        st .answer f (good-tree s good) ∙ ap (λ (x : ℕ). change (c .length) x (roomToGrow f c)) aim in
-        let w : Says (c .length) (ofReporting r) = rw a (change-says (c .length) (target (need e) (c .floor) (c .ceiling)) (roomToGrow f c)) in
-        let made : new ≡ metered c (lengthIn (ofReporting r)) e = ew ∙ ap₂ (metered c) en est in
-        let t : bytes ≡ treeFor (set (s .connections) h (metered c (lengthIn (ofReporting r)) e)) = settled r e bytes w (st .tree f (good-tree s good)) in
-        ap (λ (x : Connection). record { answer = ofReporting r; schedule = record { connections = set (s .connections) h x; tree = record { bytes = bytes } } }) made
-        ∙ ap (λ (x : Schedule). record { answer = ofReporting r; schedule = x }) (scheduled (set (s .connections) h (metered c (lengthIn (ofReporting r)) e)) bytes t)
-        ∙ ap (λ (x : Answer). record { answer = x; schedule = scheduleOf (set (s .connections) h (metered c (lengthIn x) e)) }) a
+        let a : ofReporting r ≡ change (c .length) (aim c sample) (roomToGrow f c) =
+        st .answer f (good-tree s good) ∙ ap (λ (x : Meter). change (c .length) (x .length) (roomToGrow f c)) em in
+        let w = settled r (aim c sample) e (roomToGrow f c) bytes a (st .tree f (good-tree s good)) in
+        let after = set (s .connections) h (metered c (newLength (c .length) (aim c sample) (roomToGrow f c)) e) in
+        let made : new ≡ metered c (newLength (c .length) (aim c sample) (roomToGrow f c)) e = ew ∙ ap₂ (metered c) (en ∙ w .0) (ap (λ (x : Meter). x .estimate) em) in
+        ap₂ (λ (x : Answer) (y : Connection). record { answer = x; schedule = record { connections = set (s .connections) h y; tree = record { bytes = bytes } } }) a made
+        ∙ ap (λ (x : Schedule). record { answer = change (c .length) (aim c sample) (roomToGrow f c); schedule = x }) (scheduled after bytes (w .1))
         ∙ sym (report-ok s h sample b q u)

@@ -29,6 +29,14 @@ takenAfter c (Shrunk L) f = setRun (c .k) (c .anchor) L (c .length) false f
 takenAfter c (Tight L) f = f
 takenAfter c (ReportingRefused r) f = f
 
+-- The length that a report's answer has.
+abbrev pub lengthIn : Reporting → ℕ
+lengthIn (Kept L) = L
+lengthIn (Grown L) = L
+lengthIn (Shrunk L) = L
+lengthIn (Tight L) = L
+lengthIn (ReportingRefused r) = 0
+
 -- The answer for the length aimed at, and the tree that follows it.
 pub record Settles (c : Connection) (aim : ℕ) (before after : List ℕ) (r : Reporting) : Type 0 where
   pub answer : ByTree before (ofReporting r) (λ taken. change (c .length) aim (roomToGrow taken c))

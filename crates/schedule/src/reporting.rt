@@ -2,11 +2,10 @@
 ghost use mathlib.Core.Path.{_≡_};
 ghost use Prim.Native.Nat.{_≤_};
 ghost use Rattle.rules.specs.Good.{Good};
-ghost use Rattle.rules.specs.Answers.{ofReporting, lengthIn};
 ghost use Rattle.rules.specs.Report.{metered};
 ghost use Rattle.rules.proofs.SoundLaws.{Numbers};
 ghost use Rattle.tree.specs.Promises.{IsTree};
-ghost use Rattle.schedule.specs.Promises.{Settles, Reports};
+ghost use Rattle.schedule.specs.Promises.{lengthIn, Settles, Reports};
 use meter::move_meter;
 use rules::Connection;
 use rules::Refusal;
@@ -38,7 +37,7 @@ fn settle(tree: &mut [u8; 128], c: Connection, aim: u16) -> Reporting
 }
 
 fn length_of(answer: Reporting) -> u16
-    ensures { λ r. ⌜ r ≡ lengthIn (ofReporting answer) ⌝ }
+    ensures { λ r. ⌜ r ≡ lengthIn answer ⌝ }
 {
     match answer {
         Reporting::Kept(length) => length,
