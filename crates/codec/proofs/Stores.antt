@@ -9,7 +9,7 @@ use lib.ListN.{length, getD, take, drop, set}
 use lib.Dec.{lit≤}
 use lib.Seq.{sets, drop-cons}
 use Rattle.rules.specs.Bytes.{little, littleNumber}
-use Rattle.rules.proofs.StoreLaws.{sets-append}
+use Rattle.basics.proofs.StoreLaws.{sets-append}
 
 -- One byte more of a number.
 pub little-snoc : (w n : ℕ) → little (w + 1) n ≡ little w n ++ (n / 256 ^ w % 256 ∷ [])

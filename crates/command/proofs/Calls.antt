@@ -15,7 +15,7 @@ use Rattle.rules.specs.declared.Reply.the-variants.{Admission as ReplyAdmission
 use Rattle.rules.specs.declared.Obeyed.{Obeyed}
 use Rattle.rules.specs.Answers.{Outcome, ofReply, ofObeyed}
 use Rattle.rules.specs.Program.{mostOutput, program}
-use Rattle.rules.proofs.AnswerLaws.{admitted-injective, dropped-injective, reported-injective, ownership-injective, distance-injective}
+use Rattle.calls.proofs.AnswerLaws.{admitted-injective, dropped-injective, reported-injective, ownership-injective, distance-injective}
 use Rattle.command.specs.declared.Output.{Output}
 use Rattle.command.specs.Promises.{OwnKind, Obeys, Runs}
 

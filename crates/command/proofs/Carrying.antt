@@ -15,7 +15,7 @@ use Rattle.rules.specs.Text.{text}
 use Rattle.rules.specs.Words.{wordsOf}
 use Rattle.rules.specs.Commands.{says}
 use Rattle.rules.specs.Program.{Printed, heed}
-use Rattle.rules.proofs.CommandLaws.{says-only, line-length}
+use Rattle.texts.proofs.CommandLaws.{says-only, line-length}
 use Rattle.text.specs.Promises.{Puts}
 use Rattle.command.specs.Promises.{Obeys, Carries}
 use Rattle.line.specs.Promises.{PutsLine, PutsAnswer}

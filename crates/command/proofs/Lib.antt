@@ -3,3 +3,4 @@ pub mod Commanded
 pub mod Carrying
 pub mod Whole
 pub mod Calls
+pub mod ProgramLaws

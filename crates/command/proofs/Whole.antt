@@ -12,8 +12,8 @@ use Rattle.rules.specs.Text.{byte, text}
 use Rattle.rules.specs.Split.{before}
 use Rattle.rules.specs.Commands.{says}
 use Rattle.rules.specs.Program.{mostInput, mostOutput, heed, answered, program}
-use Rattle.rules.proofs.SplitLaws.{Without, before-without, before-take, before-all, before-here}
-use Rattle.rules.proofs.ProgramLaws.{answered-line, answered-tail, answered-nothing, program-long, program-answered}
+use Rattle.texts.proofs.SplitLaws.{Without, before-without, before-take, before-all, before-here}
+use Rattle.command.proofs.ProgramLaws.{answered-line, answered-tail, answered-nothing, program-long, program-answered}
 use Rattle.text.specs.Promises.{Puts}
 use Rattle.text.proofs.Putting.{puts-after}
 use Rattle.command.specs.declared.Carried.{Carried}

@@ -11,8 +11,8 @@ use Rattle.rules.specs.Refusals.{number}
 use Rattle.rules.specs.Bytes.{littleNumber}
 use Rattle.rules.specs.Steps.{gives, refuses}
 use Rattle.rules.specs.LoadSteps.{frameStep, FramedAt}
-use Rattle.rules.proofs.BytesLaws.{AllBytes}
-use Rattle.rules.proofs.FrameLaws.{frame-counts, frame-wrong}
+use Rattle.basics.proofs.BytesLaws.{AllBytes}
+use Rattle.images.proofs.FrameLaws.{frame-counts, frame-wrong}
 use Rattle.frame.specs.Promises.{RecordAt, ConnectionsAt}
 
 -- A place has one kind and one size.

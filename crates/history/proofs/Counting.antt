@@ -12,8 +12,8 @@ use borrow.Author.Tests.{lt-ltb, le-ltb}
 use Rattle.rules.specs.declared.Connection.{Connection}
 use Rattle.rules.specs.Time.{minusMod}
 use Rattle.rules.specs.Ownership.{factor, belongs, owns}
-use Rattle.rules.proofs.EndlessTime.{minusMod-lt, minusMod-back, minusMod-only, minusMod-mod}
-use Rattle.rules.proofs.SoundLaws.{Numbers}
+use Rattle.blocks.proofs.EndlessTime.{minusMod-lt, minusMod-back, minusMod-only, minusMod-mod}
+use Rattle.rules.specs.Sound.{Numbers}
 use Rattle.history.specs.Demands.{countFrom}
 
 -- One block, counted.

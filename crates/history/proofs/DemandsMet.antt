@@ -1,7 +1,7 @@
 -- The customer's demands are met by the rule sheet's step, and by every run of the code.
 use Rattle.rules.specs.Handles.{connection}
-use Rattle.rules.proofs.SoundLaws.{Sound}
-use Rattle.rules.proofs.ScheduleLaws.{good-sound}
+use Rattle.blocks.proofs.SoundLaws.{Sound}
+use Rattle.blocks.proofs.ScheduleLaws.{good-sound}
 use Rattle.history.specs.Calls.{ruled}
 use Rattle.history.specs.Runs.{Run, more, now, followed, System, By}
 use Rattle.history.specs.Demands.{Demand1, Demand2, Demand3}

@@ -18,11 +18,11 @@ use Rattle.rules.specs.Drop.{dropDone, drop}
 use Rattle.rules.specs.Report.{metered, reportDone, report}
 use Rattle.rules.specs.Image.{IsImage}
 use Rattle.rules.specs.Load.{load}
-use Rattle.rules.proofs.ScheduleLaws.{set-same}
-use Rattle.rules.proofs.AdmitLaws.{admit-cases, admit-others}
-use Rattle.rules.proofs.DropLaws.{drop-cases, drop-others}
-use Rattle.rules.proofs.ReportLaws.{report-cases, report-others, new}
-use Rattle.rules.proofs.ImageLaws.{load-cases}
+use Rattle.blocks.proofs.ScheduleLaws.{set-same}
+use Rattle.calls.proofs.AdmitLaws.{admit-cases, admit-others}
+use Rattle.calls.proofs.DropLaws.{drop-cases, drop-others}
+use Rattle.calls.proofs.ReportLaws.{report-cases, report-others, new}
+use Rattle.images.proofs.ImageLaws.{load-cases}
 use Rattle.history.specs.Calls.{Bytes, Call, Admit, Drop, Report, Owner, Anchor, Save, Load, Request, Result, beside, ruledCall, ruled}
 use Rattle.history.specs.Runs.{Made}
 use Rattle.history.specs.Moments.{AdmissionOf, DropOf, ReportOf, Placed, Restores}

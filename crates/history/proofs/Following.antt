@@ -5,8 +5,9 @@ use Rattle.rules.specs.declared.Schedule.{Schedule}
 use Rattle.rules.specs.Answers.{Outcome, ofOwnership, ofDistance}
 use Rattle.rules.specs.Good.{Good, fresh}
 use Rattle.rules.specs.Save.{Written}
-use Rattle.rules.proofs.NotEmpty.{fresh-is-good}
-use Rattle.rules.proofs.CallLaws.{admits, drops, reports, loads, call-good}
+use Rattle.blocks.proofs.ScheduleLaws.{fresh-is-good}
+use Rattle.calls.proofs.CallLaws.{admits, drops, reports, call-good}
+use Rattle.images.proofs.ImageLaws.{load-good}
 use Rattle.history.specs.Calls.{Bytes, Call, Admit, Drop, Report, Owner, Anchor, Save, Load, Lent, Request, Result, beside, asked, ruledCall, ruled}
 use Rattle.history.specs.Runs.{Start, Fresh, startOf, History, begin, next, after, Made, Run, begun, more, now, historyOf, followed, StepFunction, By}
 use Rattle.history.specs.Code.{StartsAs, Meets, Coded}
@@ -24,7 +25,7 @@ step-good s good (Report h sample) lent = call-good s good (reports h sample)
 step-good s good (Owner b) lent = good
 step-good s good (Anchor h b) lent = good
 step-good s good Save lent = good
-step-good s good (Load bytes) lent = call-good s good (loads (bytes .list) (bytes .small))
+step-good s good (Load bytes) lent = load-good s good (bytes .list) (bytes .small)
 
 -- Every history leaves a good schedule.
 pub after-good : (h : History) → Good (after h)

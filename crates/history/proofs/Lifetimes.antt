@@ -11,11 +11,11 @@ use Rattle.rules.specs.Good.{scheduleOf}
 use Rattle.rules.specs.Handles.{connection, isLive}
 use Rattle.rules.specs.Report.{metered}
 use Rattle.rules.specs.Load.{load}
-use Rattle.rules.proofs.AdmitLaws.{admit-stored}
-use Rattle.rules.proofs.SoundLaws.{scheduled-good}
-use Rattle.rules.proofs.ScheduleLaws.{good-sound}
-use Rattle.rules.proofs.ImageLaws.{at-free}
-use Rattle.rules.proofs.RoundTrip.{round-connection}
+use Rattle.calls.proofs.AdmitLaws.{admit-stored}
+use Rattle.blocks.proofs.SoundLaws.{scheduled-good}
+use Rattle.blocks.proofs.ScheduleLaws.{good-sound}
+use Rattle.images.proofs.ImageLaws.{at-free}
+use Rattle.images.proofs.RoundTrip.{round-connection}
 use Rattle.history.specs.Calls.{Admit, Load, Result, ruledCall, ruled}
 use Rattle.history.specs.Runs.{Start, Fresh, startOf, Made, Run, begun as run-begun, more, now, followed, By}
 use Rattle.history.specs.Moments.{Begins, admitted, restored, Ends, drops, replaced as ends-replaced, Lasts, Unreported, Alive}

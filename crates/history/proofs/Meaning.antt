@@ -16,13 +16,13 @@ use Rattle.rules.specs.Answers.{Answer, ok}
 use Rattle.rules.specs.Admit.{kOf, admitDone, admit}
 use Rattle.rules.specs.Image.{image}
 use Rattle.rules.specs.Save.{Written}
-use Rattle.rules.proofs.EndlessTime.{belongs-reserved}
-use Rattle.rules.proofs.SoundLaws.{Numbers}
-use Rattle.rules.proofs.ScheduleLaws.{good-sound}
-use Rattle.rules.proofs.AdmitLaws.{admit-cases, k-largest}
-use Rattle.rules.proofs.RoomLaws.{no-room-exactly, room-exactly}
-use Rattle.rules.proofs.SaveLaws.{save-whole}
-use Rattle.rules.proofs.ImageLaws.{load-exactly, load-saves}
+use Rattle.blocks.proofs.EndlessTime.{belongs-reserved}
+use Rattle.rules.specs.Sound.{Numbers}
+use Rattle.blocks.proofs.ScheduleLaws.{good-sound}
+use Rattle.calls.proofs.AdmitLaws.{admit-cases, k-largest}
+use Rattle.calls.proofs.RoomLaws.{no-room-exactly, room-exactly}
+use Rattle.images.proofs.SaveLaws.{save-whole}
+use Rattle.images.proofs.ImageLaws.{load-exactly, load-saves}
 use Rattle.history.specs.Calls.{Admit, Save, Load, Lent, Result, ruledCall, ruled}
 use Rattle.history.specs.Runs.{Run, now, By}
 use Rattle.history.specs.Demands.{IntervalsMeant, EventsMeant, ResultsGiven, ConnectionsGiven, TreeGiven, Reaches, RoomAsked, RoomExact, RestoreExact, SavesSame, Demand2}

@@ -13,8 +13,9 @@ use Rattle.rules.specs.Answers.{Answer, Outcome, refused, slots}
 use Rattle.rules.specs.Owner.{ownerOr, ownerOf}
 use Rattle.rules.specs.Anchor.{slotsToAnchor, anchorChecks, anchor}
 use Rattle.rules.specs.Save.{saveChecks, saveDone, save}
-use Rattle.rules.proofs.RefusalLaws.{decided-cases, refused-same}
-use Rattle.rules.proofs.CallLaws.{InTable, Tabled, Leaves, tabled, refusal-in-table, refusal-keeps-schedule}
+use Rattle.calls.proofs.RefusalLaws.{decided-cases, refused-same}
+use Rattle.calls.proofs.CallLaws.{InTable, Tabled, Leaves, tabled, refusal-in-table, refusal-keeps-schedule}
+use Rattle.images.proofs.LoadLaws.{load-in-table, load-keeps}
 use Rattle.history.specs.Calls.{Call, Admit, Drop, Report, Owner, Anchor, Save, Load, Lent, Result, beside, ruledCall, ruled}
 use Rattle.history.specs.Runs.{Made, Run, more, now, By}
 use Rattle.history.specs.Demands.{Refusal}
@@ -50,7 +51,7 @@ call-left s (Owner b) lent n e = (owner-tabled (least handles (λ x. owns (conne
 call-left s (Anchor x b) lent n e =
     (tabled (anchorChecks s x) (slots (slotsToAnchor (connection s x) b)) (λ m q. let z : _≡_ {A = ℕ} 0 1 = cc in absurd (omega arith)) n e, refl, refl)
 call-left s Save lent n e = let w = save-left s (lent .buffer) n e in (w .0, refl, ap (λ (b : List ℕ). record { buffer = b }) (w .1))
-call-left s (Load bytes) lent n e = outcome-left s lent (Leaves.loads (bytes .list) (bytes .small)) n e
+call-left s (Load bytes) lent n e = (load-in-table s (bytes .list) n e, load-keeps s (bytes .list) n e, refl)
 
 pub refusals : (run : Run) (m : Made) (n : ℕ) → By ruled (more run m) → m .result .answer ≡ refused n → Refusal run m n
 refusals run m n by e =

@@ -15,8 +15,8 @@ use Rattle.rules.specs.Split.{Parts, split}
 use Rattle.rules.specs.Words.{wordsOf}
 use Rattle.rules.specs.Commands.{says}
 use Rattle.rules.specs.Program.{Printed, mostInput, obey, heed, printed, tailPrinted, answered, program}
-use Rattle.rules.proofs.SplitLaws.{split-piece}
-use Rattle.rules.proofs.ProgramLaws.{heed-without, program-answered}
+use Rattle.texts.proofs.SplitLaws.{split-piece}
+use Rattle.command.proofs.ProgramLaws.{heed-without, program-answered}
 use Rattle.history.specs.Calls.{Result, beside, ruledCall, ruled}
 use Rattle.history.specs.Runs.{Fresh, startOf, History, begin, next, after}
 use Rattle.history.specs.Said.{requestOf, heard, heardAll, told, toldAll, tailTold}

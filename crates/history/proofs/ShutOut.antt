@@ -13,9 +13,8 @@ use Rattle.rules.specs.Answers.{Answer, ok}
 use Rattle.rules.specs.Handles.{connection}
 use Rattle.rules.specs.Admit.{kOf}
 use Rattle.rules.specs.Image.{image}
-use Rattle.rules.proofs.ScheduleLaws.{nobody-owns}
-use Rattle.rules.proofs.ImageLaws.{image-bytes, at-free}
-use Rattle.rules.proofs.NotEmpty.{fresh-is-good}
+use Rattle.blocks.proofs.ScheduleLaws.{nobody-owns, fresh-is-good}
+use Rattle.images.proofs.ImageLaws.{image-bytes, at-free}
 use Rattle.history.specs.Calls.{Bytes, Call, Admit, Drop, Report, Owner, Save, Load, Lent, Request, Result, ruledCall}
 use Rattle.history.specs.Runs.{Fresh, startOf, History, begin, next, after, Made, Run, begun, more, now, historyOf, StepFunction, By}
 use Rattle.history.specs.Moments.{Ends, admitted, drops, replaced}

@@ -33,10 +33,11 @@ use Rattle.rules.specs.Anchor.{slotsToAnchor, anchorChecks, anchor}
 use Rattle.rules.specs.Image.{image}
 use Rattle.rules.specs.Save.{Written, saveChecks, saveDone, save}
 use Rattle.rules.specs.Load.{countIn, piecesOf, loadChecks, loadDone, load}
-use Rattle.rules.proofs.RefusalLaws.{decided-cases, decided-map}
-use Rattle.rules.proofs.MeterLaws.{change-cases}
-use Rattle.rules.proofs.CallLaws.{admits, drops, reports, loads, call-good}
-use Rattle.rules.proofs.NotEmpty.{fresh-is-good}
+use Rattle.calls.proofs.RefusalLaws.{decided-cases, decided-map}
+use Rattle.calls.proofs.MeterLaws.{change-cases}
+use Rattle.calls.proofs.CallLaws.{admits, drops, reports, call-good}
+use Rattle.images.proofs.ImageLaws.{load-good}
+use Rattle.blocks.proofs.ScheduleLaws.{fresh-is-good}
 use Rattle.history.specs.Calls.{Call, Admit, Drop, Report, Owner, Anchor, Save, Load, Lent, Request, Result}
 use Rattle.history.specs.Runs.{Start, Fresh, startOf, Run, begun, more, now, StepFunction, By}
 use Rattle.history.specs.Demands.{Takes}
@@ -68,7 +69,7 @@ whole o a = record { answer = a; schedule = o .schedule }
 
 changing : (L aim : ℕ) (room : Bool) → (e : Reporting) × (ofReporting e ≡ change L aim room)
 changing L aim room =
-    change-cases L aim room (λ a. (e : Reporting) × (ofReporting e ≡ a))
+    change-cases L aim room (λ a M. (e : Reporting) × (ofReporting e ≡ a))
     (λ q. (Kept L, refl)) (λ l. (Shrunk aim, refl)) (λ l q. (Grown (L + 1), refl)) (λ l q. (Tight L, refl))
 
 reporting : (f : ℕ → Bool) (c : Connection) (sample : ℕ) → (e : Reporting) × (ofReporting e ≡ reportAnswer f c sample)
@@ -113,7 +114,7 @@ meets-some s good Save lent =
 meets-some s good (Load bytes) lent =
     let w = stands-outcome ofLoading LoadingRefused (λ why. refl) (loadChecks (bytes .list)) s (loadDone (bytes .list)) (Count _, refl) in
     let o = load s (bytes .list) in
-    (_, (record { answer = w .0; schedule = o .schedule }, record { is = ap (whole o) (w .1); good = call-good s good (loads (bytes .list) (bytes .small)) }, refl))
+    (_, (record { answer = w .0; schedule = o .schedule }, record { is = ap (whole o) (w .1); good = load-good s good (bytes .list) (bytes .small) }, refl))
 
 starts-some : (start : Start) → (s : Schedule) × StartsAs start s
 unfolding startOf

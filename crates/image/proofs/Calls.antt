@@ -7,9 +7,8 @@ use Rattle.rules.specs.declared.Saving.{Saving}
 use Rattle.rules.specs.declared.Loaded.{Loaded}
 use Rattle.rules.specs.Answers.{Outcome, refused, ofLoaded}
 use Rattle.rules.specs.Save.{Written}
-use Rattle.rules.proofs.BytesLaws.{AllBytes}
-use Rattle.rules.proofs.AnswerLaws.{saving-injective, loaded-injective}
-use Rattle.rules.proofs.CallLaws.{Leaves, refusal-keeps-schedule}
+use Rattle.calls.proofs.AnswerLaws.{saving-injective, loaded-injective}
+use Rattle.images.proofs.LoadLaws.{load-keeps}
 use Rattle.image.specs.Promises.{Saves, Loads}
 
 -- Two outcomes that meet a call's statement are equal, the buffer too.
@@ -22,7 +21,7 @@ pub load-unique : (s : Schedule) (bytes : List ℕ) (a b : Loaded) → Loads s b
 load-unique s bytes a b p q = loaded-injective a b (p .is ∙ sym (q .is))
 
 -- A refused load leaves the schedule as it was.
-pub load-refusal : (s : Schedule) (bytes : List ℕ) → AllBytes bytes → (r : Loaded) → Loads s bytes r → (n : ℕ) → ofLoaded r .answer ≡ refused n → r .schedule ≡ s
-load-refusal s bytes b r p n e =
+pub load-refusal : (s : Schedule) (bytes : List ℕ) (r : Loaded) → Loads s bytes r → (n : ℕ) → ofLoaded r .answer ≡ refused n → r .schedule ≡ s
+load-refusal s bytes r p n e =
     ap (λ (o : Outcome). o .schedule) (p .is)
-    ∙ refusal-keeps-schedule s (Leaves.loads bytes b) n (ap (λ (o : Outcome). o .answer) (sym (p .is)) ∙ e)
+    ∙ load-keeps s bytes n (ap (λ (o : Outcome). o .answer) (sym (p .is)) ∙ e)

@@ -9,7 +9,7 @@ use lib.Dec.{eqb}
 use lib.ListN.{length, getD, take, drop, length-drop}
 use lib.Seq.{take-all, drop-length}
 use Rattle.rules.specs.Bytes.{same}
-use Rattle.rules.proofs.BytesLaws.{same-here}
+use Rattle.basics.proofs.BytesLaws.{same-here}
 
 module _ (bytes tree : List ℕ) (start : ℕ) (e : start + 128 ≡ length bytes) (n : length tree ≡ 128) where
   pub ends-start : same (take 128 (drop start bytes)) tree ≡ same (drop (start + 0) bytes) tree

@@ -19,11 +19,11 @@ use Rattle.rules.specs.Answers.{Outcome, refusing, loaded, ofLoaded}
 use Rattle.rules.specs.Bytes.{same}
 use Rattle.rules.specs.Load.{soundPieces, restored, load}
 use Rattle.rules.specs.LoadSteps.{ofFrame, frameStep, records, FramedAt}
-use Rattle.rules.proofs.BytesLaws.{AllBytes}
-use Rattle.rules.proofs.TreeLaws.{tree-sized}
-use Rattle.rules.proofs.ImageLaws.{load-good}
-use Rattle.rules.proofs.FrameLaws.{framed-right}
-use Rattle.rules.proofs.LoadLaws.{frame-framed, frame-refuses, load-9, load-10, load-11, load-12, load-ok}
+use Rattle.basics.proofs.BytesLaws.{AllBytes}
+use Rattle.blocks.proofs.TreeLaws.{tree-sized}
+use Rattle.images.proofs.ImageLaws.{load-good}
+use Rattle.images.proofs.FrameLaws.{framed-right}
+use Rattle.images.proofs.LoadLaws.{frame-framed, frame-refuses, load-9, load-10, load-11, load-12, load-ok}
 use Rattle.restore.specs.Promises.{Restores}
 use Rattle.restore.proofs.Calls.{restores-apart}
 use Rattle.image.specs.Promises.{Loads}

@@ -16,10 +16,10 @@ use Rattle.rules.specs.Good.{Good}
 use Rattle.rules.specs.Refusals.{number}
 use Rattle.rules.specs.Answers.{refused, saved}
 use Rattle.rules.specs.Save.{Written, save}
-use Rattle.rules.proofs.PieceLaws.{joined-append}
-use Rattle.rules.proofs.StoreLaws.{put-after}
-use Rattle.rules.proofs.ImageLaws.{connections-length, connections-count, image-length}
-use Rattle.rules.proofs.SaveLaws.{count-live, count-dead, joined-live, joined-dead, save-short, save-written}
+use Rattle.images.proofs.PieceLaws.{joined-append}
+use Rattle.basics.proofs.StoreLaws.{put-after}
+use Rattle.images.proofs.ImageLaws.{connections-length, connections-count, image-length}
+use Rattle.images.proofs.SaveLaws.{count-live, count-dead, joined-live, joined-dead, save-short, save-written}
 use Rattle.image.specs.Promises.{treeRecord, PutsConnections}
 
 module _ (l : List ℕ) (start : ℕ) where

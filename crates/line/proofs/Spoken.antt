@@ -17,8 +17,8 @@ use Rattle.rules.specs.Text.{text}
 use Rattle.rules.specs.Words.{spaced}
 use Rattle.rules.specs.Commands.{wordOf, numbersOf, lineOf, says}
 use Rattle.rules.specs.LineSteps.{numbersIn}
-use Rattle.rules.proofs.BytesLaws.{same-exactly}
-use Rattle.rules.proofs.CommandLaws.{says-line, says-bad, numbers-spaced, numbers-only}
+use Rattle.basics.proofs.BytesLaws.{same-exactly}
+use Rattle.texts.proofs.CommandLaws.{says-line, says-bad, numbers-spaced, numbers-only}
 use Rattle.text.specs.declared.Numbers.{Numbers}
 use Rattle.text.proofs.Rows.{ofNumbers}
 use Rattle.line.specs.Promises.{saysIf}

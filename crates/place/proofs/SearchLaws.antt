@@ -18,9 +18,9 @@ use Rattle.rules.specs.TreeBytes.{bitAt}
 use Rattle.rules.specs.Refusals.{number}
 use Rattle.rules.specs.Admit.{isOpen, firstOpen}
 use Rattle.rules.specs.Steps.{gives, refuses, placeStep}
-use Rattle.rules.proofs.BoolLaws.{is-false}
-use Rattle.rules.proofs.BelowLaws.{every-at, every-of, least-is, least-is-none}
-use Rattle.rules.proofs.MirrorLaws.{mirror-lt, mirror-mirror, mirror-by-half}
+use Rattle.basics.proofs.BoolLaws.{is-false}
+use Rattle.basics.proofs.BelowLaws.{every-at, every-of, least-is, least-is-none}
+use Rattle.blocks.proofs.MirrorLaws.{mirror-lt, mirror-mirror, mirror-by-half}
 use Rattle.place.specs.Promises.{Long, Row, Reads, Stretches}
 
 -- The run at A is free up to its block n.

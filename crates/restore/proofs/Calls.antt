@@ -10,8 +10,8 @@ use Rattle.rules.specs.Sound.{apart}
 use Rattle.rules.specs.Good.{scheduleOf}
 use Rattle.rules.specs.Load.{soundPieces, restored}
 use Rattle.rules.specs.LoadSteps.{pieceAt, records}
-use Rattle.rules.proofs.BelowLaws.{largest-unique}
-use Rattle.rules.proofs.RestoreLaws.{sound-first, clash-first, apart-none}
+use Rattle.basics.proofs.BelowLaws.{largest-unique}
+use Rattle.images.proofs.RestoreLaws.{sound-first, clash-first, apart-none}
 use Rattle.restore.specs.Promises.{mostApart, Restores}
 
 module _ (bytes : List ℕ) (n : ℕ) where

@@ -13,11 +13,12 @@ use Rattle.rules.specs.Bytes.{littleNumber}
 use Rattle.rules.specs.Image.{Piece}
 use Rattle.rules.specs.Load.{handleIn, connectionIn, soundPieces}
 use Rattle.rules.specs.LoadSteps.{pieceAt, records, FramedAt}
-use Rattle.rules.proofs.BoolLaws.{is-false}
-use Rattle.rules.proofs.BelowLaws.{length-tabulate, getD-tabulate}
-use Rattle.rules.proofs.BytesLaws.{AllBytes, bytes-take, bytes-drop, number-lt}
-use Rattle.rules.proofs.SoundLaws.{Numbers, numbers-sound}
-use Rattle.rules.proofs.RestoreLaws.{pieces-pass, handle-above, handle-falls, numbers-fail}
+use Rattle.basics.proofs.BoolLaws.{is-false}
+use Rattle.basics.proofs.BelowLaws.{length-tabulate, getD-tabulate}
+use Rattle.basics.proofs.BytesLaws.{AllBytes, bytes-take, bytes-drop, number-lt}
+use Rattle.rules.specs.Sound.{Numbers}
+use Rattle.blocks.proofs.SoundLaws.{numbers-sound}
+use Rattle.images.proofs.RestoreLaws.{pieces-pass, handle-above, handle-falls, numbers-fail}
 use Rattle.restore.specs.Promises.{recordAt, Reads}
 
 -- ---- a number of a record

@@ -5,8 +5,8 @@ use Prim.Native.Nat.{ℕ, _+_, _%_, _^_, _<_}
 use native.Mathlib.Numerals.{add-one}
 use Rattle.rules.specs.Below.{every}
 use Rattle.rules.specs.Classes.{free, runFree}
-use Rattle.rules.proofs.BoolLaws.{is-false}
-use Rattle.rules.proofs.BelowLaws.{every-at}
+use Rattle.basics.proofs.BoolLaws.{is-false}
+use Rattle.basics.proofs.BelowLaws.{every-at}
 
 module _ (f : ℕ → Bool) (k A : ℕ) where
   pub free-none : true ≡ runFree f k A 0

@@ -17,10 +17,10 @@ use Rattle.rules.specs.Good.{treeFor, scheduleOf}
 use Rattle.rules.specs.Image.{Piece}
 use Rattle.rules.specs.Load.{handleIn, connectionIn, soundPieces, restored}
 use Rattle.rules.specs.LoadSteps.{pieceAt, records}
-use Rattle.rules.proofs.BelowLaws.{tabulate-last}
-use Rattle.rules.proofs.SoundLaws.{Numbers}
-use Rattle.rules.proofs.ScheduleLaws.{fresh-tree}
-use Rattle.rules.proofs.RestoreLaws.{numbers-here, handle-here, placed-here, run-apart, run-clash, run-tree, sound-first, clash-first, apart-none}
+use Rattle.basics.proofs.BelowLaws.{tabulate-last}
+use Rattle.rules.specs.Sound.{Numbers}
+use Rattle.blocks.proofs.ScheduleLaws.{fresh-tree}
+use Rattle.images.proofs.RestoreLaws.{numbers-here, handle-here, placed-here, run-apart, run-clash, run-tree, sound-first, clash-first, apart-none}
 use Rattle.tree.specs.Promises.{IsTree}
 use Rattle.run.specs.Promises.{SetsRun}
 use Rattle.restore.specs.Promises.{RunFreeSays, mostApart, Restores}

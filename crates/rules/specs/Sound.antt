@@ -1,5 +1,5 @@
 -- Sound schedules.
-use Prim.Native.Nat.{_*_}
+use Prim.Native.Nat.{_*_, _<_, _≤_}
 use mathlib.Core.Bool.{Bool, true, not, _||_, _&&_}
 use mathlib.Core.List.{List, [], _∷_}
 use lib.Dec.{leb, ltb}
@@ -19,6 +19,16 @@ soundNumbers c =
     && leb (c .length) (c .ceiling)
     && leb (c .ceiling) (factor c)
     && leb (c .estimate) (c .length * blockMicros)
+
+-- What these numbers being sound means.
+pub record Numbers (c : Connection) : Type 0 where
+  pub deep : c .k ≤ largestK
+  pub anchored : c .anchor < factor c
+  pub positive : 1 ≤ c .floor
+  pub floored : c .floor ≤ c .length
+  pub ceiled : c .length ≤ c .ceiling
+  pub whole : c .ceiling ≤ factor c
+  pub metered : c .estimate ≤ c .length * blockMicros
 
 -- So it is for each live connection.
 unfoldable pub allSound : List Connection → Bool

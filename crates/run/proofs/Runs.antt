@@ -5,7 +5,7 @@ use mathlib.Core.List.{List}
 use Prim.Native.Nat.{ℕ, _+_, _%_, _^_, _<_, _≤_}
 use Rattle.rules.specs.Classes.{setRun, withClass, withoutClass}
 use Rattle.rules.specs.TreeBytes.{treeOf}
-use Rattle.rules.proofs.RunLaws.{tree-run-taken, tree-run-given}
+use Rattle.blocks.proofs.RunLaws.{tree-run-taken, tree-run-given}
 use Rattle.tree.specs.Promises.{IsTree, Takes, GivesBack}
 use Rattle.run.specs.Promises.{SetsRun}
 

@@ -12,12 +12,12 @@ use Rattle.rules.specs.declared.Distance.{Distance}
 use Rattle.rules.specs.Good.{Good}
 use Rattle.rules.specs.Answers.{Answer, Outcome, refused, ok, dropped, ofOwnership, ofDistance, ofAdmitted, ofDropped, ofReported}
 use Rattle.rules.specs.Handles.{connection, isLive}
-use Rattle.rules.proofs.AnswerLaws.{admitted-injective, dropped-injective, reported-injective, ownership-injective, distance-injective}
-use Rattle.rules.proofs.AdmitLaws.{admit-others}
-use Rattle.rules.proofs.DropLaws.{drop-others}
-use Rattle.rules.proofs.ReportLaws.{report-others}
-use Rattle.rules.proofs.LiveLaws.{admit-lives, drop-lives, report-lives}
-use Rattle.rules.proofs.CallLaws.{Leaves, refusal-keeps-schedule}
+use Rattle.calls.proofs.AnswerLaws.{admitted-injective, dropped-injective, reported-injective, ownership-injective, distance-injective}
+use Rattle.calls.proofs.AdmitLaws.{admit-others}
+use Rattle.calls.proofs.DropLaws.{drop-others}
+use Rattle.calls.proofs.ReportLaws.{report-others}
+use Rattle.calls.proofs.LiveLaws.{admit-lives, drop-lives, report-lives}
+use Rattle.calls.proofs.CallLaws.{Leaves, refusal-keeps-schedule}
 use Rattle.schedule.specs.Promises.{Admits, Drops, Reports}
 
 -- ---- two outcomes that meet a call's statement are equal

@@ -24,15 +24,15 @@ use Rattle.rules.specs.Drop.{dropDone, drop}
 use Rattle.rules.specs.Meter.{moved, need, movedMeter, change, newLength}
 use Rattle.rules.specs.Report.{roomToGrow, metered, aim, reportAnswer, reportLength, reportDone, report}
 use Rattle.rules.specs.Steps.{places, refuses, ofPlan, planStep}
-use Rattle.rules.proofs.SoundLaws.{Numbers}
-use Rattle.rules.proofs.ScheduleLaws.{inside, good-tree, good-sound, longer-tree, shorter-tree, live-runs, dead-runs}
-use Rattle.rules.proofs.AnswerLaws.{reporting-injective}
-use Rattle.rules.proofs.AdmitLaws.{admit-good}
-use Rattle.rules.proofs.PlanLaws.{carry, admit-plan}
-use Rattle.rules.proofs.DropLaws.{drop-ok, drop-good}
-use Rattle.rules.proofs.MeterLaws.{change-cases, target-bounds}
-use Rattle.rules.proofs.ReportLaws.{report-ok, report-good}
-use Rattle.rules.proofs.RunLaws.{tree-run-none}
+use Rattle.rules.specs.Sound.{Numbers}
+use Rattle.blocks.proofs.ScheduleLaws.{inside, good-tree, good-sound, longer-tree, shorter-tree, live-runs, dead-runs}
+use Rattle.calls.proofs.AnswerLaws.{reporting-injective}
+use Rattle.calls.proofs.AdmitLaws.{admit-good}
+use Rattle.calls.proofs.PlanLaws.{carry, admit-plan}
+use Rattle.calls.proofs.DropLaws.{drop-ok, drop-good}
+use Rattle.calls.proofs.MeterLaws.{change-cases, target-bounds}
+use Rattle.calls.proofs.ReportLaws.{report-ok, report-good}
+use Rattle.blocks.proofs.RunLaws.{tree-run-none}
 use Rattle.tree.specs.Promises.{IsTree}
 use Rattle.run.specs.Promises.{SetsRun}
 use Rattle.place.specs.Promises.{Plans}

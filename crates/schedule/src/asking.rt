@@ -6,7 +6,7 @@ ghost use Rattle.rules.specs.Answers.{ofOwnership, ofDistance};
 ghost use Rattle.rules.specs.Ownership.{owns as ownsBlock};
 ghost use Rattle.rules.specs.Owner.{ownerOf};
 ghost use Rattle.rules.specs.Anchor.{anchor as anchorRule};
-ghost use Rattle.rules.proofs.SoundLaws.{Numbers};
+ghost use Rattle.rules.specs.Sound.{Numbers};
 use rules::Connection;
 use rules::Distance;
 use rules::Ownership;

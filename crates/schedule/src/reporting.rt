@@ -3,7 +3,7 @@ ghost use mathlib.Core.Path.{_≡_};
 ghost use Prim.Native.Nat.{_≤_};
 ghost use Rattle.rules.specs.Good.{Good};
 ghost use Rattle.rules.specs.Report.{metered};
-ghost use Rattle.rules.proofs.SoundLaws.{Numbers};
+ghost use Rattle.rules.specs.Sound.{Numbers};
 ghost use Rattle.tree.specs.Promises.{IsTree};
 ghost use Rattle.schedule.specs.Promises.{lengthIn, Settles, Reports};
 use meter::move_meter;

@@ -17,9 +17,9 @@ use Rattle.rules.specs.Words.{spaced}
 use Rattle.rules.specs.Commands.{lineOf, allFit, says}
 use Rattle.rules.specs.Decimal.{fits}
 use Rattle.rules.specs.LineSteps.{numbersIn}
-use Rattle.rules.proofs.BoolLaws.{is-false}
-use Rattle.rules.proofs.BytesLaws.{same-exactly}
-use Rattle.rules.proofs.CommandLaws.{says-only, bad-only, numbers-spaced, numbers-only}
+use Rattle.basics.proofs.BoolLaws.{is-false}
+use Rattle.basics.proofs.BytesLaws.{same-exactly}
+use Rattle.texts.proofs.CommandLaws.{says-only, bad-only, numbers-spaced, numbers-only}
 use Rattle.line.proofs.Spoken.{opens-long, firsts}
 use Rattle.rules.specs.Below.{tabulate}
 use Rattle.text.specs.declared.Numbers.{Numbers}

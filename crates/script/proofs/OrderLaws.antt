@@ -13,10 +13,10 @@ use Rattle.rules.specs.Text.{text}
 use Rattle.rules.specs.Decimal.{decimal, value}
 use Rattle.rules.specs.Words.{spaced}
 use Rattle.rules.specs.Commands.{lineOf, guess}
-use Rattle.rules.proofs.BoolLaws.{both, is-false}
-use Rattle.rules.proofs.BytesLaws.{same-exactly}
-use Rattle.rules.proofs.DecimalLaws.{value-decimal}
-use Rattle.rules.proofs.CommandLaws.{guess-line}
+use Rattle.basics.proofs.BoolLaws.{both, is-false}
+use Rattle.basics.proofs.BytesLaws.{same-exactly}
+use Rattle.texts.proofs.DecimalLaws.{value-decimal}
+use Rattle.texts.proofs.CommandLaws.{guess-line}
 use Rattle.script.specs.Hex.{hexDigit, hex, digitValue, unhex}
 use Rattle.script.specs.Orders.{Order, command, fresh, save, state, bad, saveInto, load, orderLine, allowed, ordered, asks}
 use Rattle.script.proofs.HexLaws.{low-digit, high-digit}

@@ -16,9 +16,9 @@ use Rattle.rules.specs.Words.{wordsOf}
 use Rattle.rules.specs.Answers.{ofSaving, refused, saved}
 use Rattle.rules.specs.Image.{image}
 use Rattle.rules.specs.Save.{Written, saveChecks, saveDone, save}
-use Rattle.rules.proofs.RefusalLaws.{decided-cases}
-use Rattle.rules.proofs.SaveLaws.{save-whole}
-use Rattle.rules.proofs.ImageLaws.{image-bounds}
+use Rattle.calls.proofs.RefusalLaws.{decided-cases}
+use Rattle.images.proofs.SaveLaws.{save-whole}
+use Rattle.images.proofs.ImageLaws.{image-bounds}
 use Rattle.image.specs.Promises.{Saves}
 use Rattle.text.specs.Promises.{Puts}
 use Rattle.text.proofs.Putting.{puts-after}

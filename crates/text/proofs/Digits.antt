@@ -9,7 +9,7 @@ use native.Mathlib.Numerals.{add-one}
 use lib.ListN.{length, getD, take}
 use lib.Seq.{take-suc, take-all}
 use Rattle.rules.specs.Decimal.{value, numberIn}
-use Rattle.rules.proofs.DecimalLaws.{Digit, value-snoc, number-right}
+use Rattle.texts.proofs.DecimalLaws.{Digit, value-snoc, number-right}
 use mathlib.Core.Option.{some}
 
 -- The first i bytes are digits.

@@ -7,8 +7,8 @@ use native.Mathlib.Omega.{arith}
 use lib.ListN.{length, getD, take, drop, length-take}
 use lib.Seq.{getD-take, drop-length}
 use Rattle.rules.specs.Bytes.{same}
-use Rattle.rules.proofs.BoolLaws.{is-false}
-use Rattle.rules.proofs.BytesLaws.{same-exactly, same-turn, same-differs}
+use Rattle.basics.proofs.BoolLaws.{is-false}
+use Rattle.basics.proofs.BytesLaws.{same-exactly, same-turn, same-differs}
 
 module _ (line word : List ℕ) where
   -- A shorter line does not.

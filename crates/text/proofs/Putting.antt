@@ -7,8 +7,8 @@ use lib.ListN.{length, getD, take, set, length-append}
 use lib.Seq.{length-sets, take-suc}
 use Rattle.rules.specs.Decimal.{decimal}
 use Rattle.rules.specs.Words.{spaced}
-use Rattle.rules.proofs.StoreLaws.{put-after}
-use Rattle.rules.proofs.DecimalLaws.{decimal-one, decimal-more, decimal-length}
+use Rattle.basics.proofs.StoreLaws.{put-after}
+use Rattle.texts.proofs.DecimalLaws.{decimal-one, decimal-more, decimal-length}
 use Rattle.text.specs.Promises.{Puts}
 
 -- What is put second, from where the first ends on.

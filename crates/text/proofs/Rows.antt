@@ -13,8 +13,8 @@ use borrow.Author.Tests.{eq-eqb, ne-eqb}
 use Rattle.rules.specs.Decimal.{numberIn}
 use Rattle.rules.specs.Split.{before}
 use Rattle.rules.specs.LineSteps.{withFirst, numbersIn}
-use Rattle.rules.proofs.SplitLaws.{before-take, before-le}
-use Rattle.rules.proofs.CommandLaws.{numbers-only}
+use Rattle.texts.proofs.SplitLaws.{before-take, before-le}
+use Rattle.texts.proofs.CommandLaws.{numbers-only}
 use Rattle.text.specs.declared.Numbers.{Numbers}
 use Rattle.text.specs.Promises.{numbersFor}
 

@@ -17,8 +17,8 @@ use Rattle.rules.specs.Below.{every}
 use Rattle.rules.specs.Mirror.{mirrored}
 use Rattle.rules.specs.TreeBytes.{bitOf, bitAt, Sized}
 use Rattle.tree.specs.Promises.{Writes}
-use Rattle.rules.proofs.BelowLaws.{every-at}
-use Rattle.rules.proofs.MirrorLaws.{mirror-lt}
+use Rattle.basics.proofs.BelowLaws.{every-at}
+use Rattle.blocks.proofs.MirrorLaws.{mirror-lt}
 
 -- ---- masks as remainders, at the literals that the code has
 pub and1 : (n : ℕ) → bitAnd n 1 ≡ n % 2

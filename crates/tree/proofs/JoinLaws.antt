@@ -12,7 +12,8 @@ use borrow.Author.Tests.{eqb-false, eq-eqb, ne-eqb}
 use Rattle.rules.specs.Classes.{depth, inClass, withClass, withoutClass}
 use Rattle.rules.specs.Mirror.{mirrored}
 use Rattle.rules.specs.TreeBytes.{treeOf, bitAt}
-use Rattle.rules.proofs.TreeLaws.{Joined, tree-root, tree-leaves, tree-of-leaves, tree-ext}
+use Rattle.blocks.specs.Joined.{Joined}
+use Rattle.blocks.proofs.TreeLaws.{tree-root, tree-leaves, tree-of-leaves, tree-ext}
 use Rattle.tree.specs.Under.{under}
 use Rattle.tree.specs.Promises.{WritesBelow, Joins, MissingOver, JoinsAbove, WritesClass}
 use Rattle.tree.proofs.Bits.{node-lt}

@@ -7,7 +7,7 @@ use lib.Bits.{bitOr, bitAnd, and-le-r, and-mask, and-block, or-block, or-lt, or-
 use lib.Dec.{lit<}
 use lib.Pow.{pow-pos, pow-mono, split, high, low, mod-mod-pow, ones-lt, shl-lt, shr-shr}
 use Rattle.rules.specs.Mirror.{mirrored}
-use Rattle.rules.proofs.MirrorLaws.{mirror-lt, mirror-split}
+use Rattle.blocks.proofs.MirrorLaws.{mirror-lt, mirror-split}
 use Rattle.tree.specs.Promises.{Mirrored}
 
 -- The lowest n blocks of m bits of y are those of x, each mirrored.

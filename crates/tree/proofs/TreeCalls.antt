@@ -5,7 +5,7 @@ use mathlib.Core.List.{List}
 use Prim.Native.Nat.{ℕ, _^_, _<_, _≤_}
 use Rattle.rules.specs.Classes.{depth, free, withClass, withoutClass}
 use Rattle.rules.specs.TreeBytes.{treeOf}
-use Rattle.rules.proofs.TreeLaws.{tree-restored}
+use Rattle.blocks.proofs.TreeLaws.{tree-restored}
 use Rattle.tree.specs.Promises.{IsTree, ByTree, Takes, GivesBack}
 
 -- Two outcomes that meet one of these promises are equal: the class's being free, and every byte after it is taken or given

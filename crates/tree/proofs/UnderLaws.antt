@@ -11,7 +11,7 @@ use lib.Dec.{eqb}
 use borrow.Author.Tests.{eq-eqb, ne-eqb}
 use Rattle.rules.specs.Classes.{inClass, depth}
 use Rattle.rules.specs.Mirror.{mirrored}
-use Rattle.rules.proofs.MirrorLaws.{mirror-lt, mirror-mirror, mirror-low}
+use Rattle.blocks.proofs.MirrorLaws.{mirror-lt, mirror-mirror, mirror-low}
 use Rattle.tree.specs.Under.{under}
 use Rattle.tree.proofs.Bits.{eqb-iff}
 

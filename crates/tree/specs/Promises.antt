@@ -7,7 +7,7 @@ use lib.Dec.{eqb}
 use Rattle.rules.specs.Classes.{free, inClass, withClass, withoutClass}
 use Rattle.rules.specs.Mirror.{mirrored}
 use Rattle.rules.specs.TreeBytes.{treeOf, bitAt, Sized}
-use Rattle.rules.proofs.TreeLaws.{Joined}
+use Rattle.blocks.specs.Joined.{Joined}
 use Rattle.tree.specs.Under.{under}
 
 pub record Mirrored (k p r : ℕ) : Type 0 where

@@ -7,7 +7,7 @@ use native.Mathlib.Omega.{arith}
 use lib.ListN.{length, length-set}
 use lib.Seq.{sets}
 use Rattle.rules.specs.Bytes.{little}
-use Rattle.rules.proofs.BytesLaws.{little-length}
+use Rattle.basics.proofs.BytesLaws.{little-length}
 use Rattle.codec.proofs.Stores.{put-turn}
 use Rattle.codec.proofs.put_number.Statement.{statement}
 use Rattle.codec.proofs.put_number.Tie as tie

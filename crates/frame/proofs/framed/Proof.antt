@@ -4,7 +4,7 @@ use mathlib.Core.Path.{_≡_, sym, _∙_, subst}
 use Prim.Native.Nat.{_+_, _*_, _≤_}
 use native.Mathlib.Omega.{arith}
 use lib.ListN.{length}
-use Rattle.rules.proofs.BytesLaws.{AllBytes}
+use Rattle.basics.proofs.BytesLaws.{AllBytes}
 use Rattle.frame.specs.Promises.{Passes, PassesAll, RecordAt, ConnectionsAt}
 use Rattle.frame.proofs.ReadLaws.{wrong-first, wrong-count, wrong-connections, wrong-last, wrong-end, right}
 use Rattle.frame.proofs.framed.Statement.{statement}

@@ -1,7 +1,7 @@
 -- `meter::moved` meets its contract.
 use borrow.Author.Needs.{needs}
 use mathlib.Core.Path.{sym}
-use Rattle.rules.proofs.MeterLaws.{moved-up, moved-down}
+use Rattle.calls.proofs.MeterLaws.{moved-up, moved-down}
 use Rattle.meter.proofs.moved.Statement.{statement}
 use Rattle.meter.proofs.moved.Tie as tie
 

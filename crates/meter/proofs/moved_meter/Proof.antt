@@ -4,7 +4,7 @@ use mathlib.Core.Path.{ap, ap₂, _∙_}
 use Prim.Native.Nat.{ℕ}
 use Rattle.rules.specs.declared.Meter.{Meter}
 use Rattle.rules.specs.Meter.{need, target, movedMeter}
-use Rattle.rules.proofs.MeterLaws.{moved-most}
+use Rattle.calls.proofs.MeterLaws.{moved-most}
 use Rattle.meter.proofs.moved_meter.Statement.{statement}
 use Rattle.meter.proofs.moved_meter.Tie as tie
 

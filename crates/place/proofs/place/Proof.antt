@@ -6,7 +6,7 @@ use mathlib.Core.List.{List}
 use Prim.Native.Nat.{ℕ, _+_, _^_}
 use Rattle.rules.specs.Mirror.{mirrored}
 use Rattle.rules.specs.TreeBytes.{treeOf, bitAt}
-use Rattle.rules.proofs.TreeLaws.{tree-class}
+use Rattle.blocks.proofs.TreeLaws.{tree-class}
 use Rattle.place.specs.Promises.{Stretches}
 use Rattle.place.proofs.place.Statement.{statement}
 use Rattle.place.proofs.place.Tie as tie

@@ -6,7 +6,7 @@ use Prim.Native.Nat.{ℕ, _≤_, _^_}
 use native.Mathlib.Nat.{le-trans}
 use Rattle.rules.specs.Admit.{intervalOutside, kOf, shareWrong}
 use Rattle.rules.specs.Steps.{ofInterval, ofShare, ofPlace}
-use Rattle.rules.proofs.AdmitLaws.{k-small, share-bounds}
+use Rattle.calls.proofs.AdmitLaws.{k-small, share-bounds}
 use Rattle.place.proofs.StepLaws.{interval-told, outside-told, share-told, wrong-told, place-told, nowhere-told, plan-2, plan-4, plan-5, plan-6, plan-ok}
 use Rattle.place.proofs.plan.Statement.{statement}
 use Rattle.place.proofs.plan.Tie as tie

@@ -6,7 +6,7 @@ use native.Mathlib.Omega.{arith}
 use lib.Pow.{pow-pos, pow-mono}
 use Rattle.rules.specs.Mirror.{mirrored}
 use Rattle.rules.specs.TreeBytes.{bitAt}
-use Rattle.rules.proofs.MirrorLaws.{mirror-lt, mirror-zero}
+use Rattle.blocks.proofs.MirrorLaws.{mirror-lt, mirror-zero}
 use Rattle.place.proofs.SearchLaws.{ReadTo, read-none, bit-of, turned, turned-is, read-more, read-all}
 use Rattle.place.proofs.read_depth.Statement.{statement}
 use Rattle.place.proofs.read_depth.Tie as tie

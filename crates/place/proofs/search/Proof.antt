@@ -10,7 +10,7 @@ use lib.ListN.{getD}
 use lib.Pow.{pow-mono}
 use Rattle.rules.specs.Mirror.{mirrored}
 use Rattle.rules.specs.Admit.{isOpen}
-use Rattle.rules.proofs.MirrorLaws.{mirror-lt}
+use Rattle.blocks.proofs.MirrorLaws.{mirror-lt}
 use Rattle.place.specs.Promises.{Stretches}
 use Rattle.place.proofs.SearchLaws.{Clear, clear-more, shut-at, found-at, found-none}
 use Rattle.place.proofs.search.Statement.{statement}

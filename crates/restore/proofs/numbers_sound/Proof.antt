@@ -2,7 +2,7 @@
 use borrow.Author.Needs.{needs}
 use native.Mathlib.Omega.{arith}
 use mathlib.Core.Path.{sym}
-use Rattle.rules.proofs.SoundLaws.{numbers-sound}
+use Rattle.blocks.proofs.SoundLaws.{numbers-sound}
 use Rattle.restore.proofs.Records.{unsound}
 use Rattle.restore.proofs.numbers_sound.Statement.{statement}
 use Rattle.restore.proofs.numbers_sound.Tie as tie

@@ -8,7 +8,7 @@ use lib.ListN.{length}
 use borrow.Author.Tests.{not-true, not-false}
 use Rattle.rules.specs.Load.{handleIn, connectionIn}
 use Rattle.rules.specs.LoadSteps.{pieceAt}
-use Rattle.rules.proofs.SoundLaws.{Numbers}
+use Rattle.rules.specs.Sound.{Numbers}
 use Rattle.tree.specs.Promises.{IsTree}
 use Rattle.restore.proofs.Records.{Cursor, cursor-first, cursor-room, cursor-next, record-at}
 use Rattle.restore.proofs.Turns.{Taken, taken-none, taken-tree, turn-numbers, turn-handle, turn-clash, turn-takes, restores-not, restores-all}

@@ -4,7 +4,7 @@ use mathlib.Core.Path.{_≡_, _∙_}
 use mathlib.Core.Logic.{⊎-elim}
 use Prim.Native.Nat.{_-_, _≤_, _<_, _^_}
 use native.Mathlib.Omega.{arith}
-use Rattle.rules.proofs.RunLaws.{tree-run-none}
+use Rattle.blocks.proofs.RunLaws.{tree-run-none}
 use Rattle.run.specs.Promises.{SetsRun}
 use Rattle.run.proofs.Runs.{still-tree, one-taken, one-given}
 use Rattle.run.proofs.set_run.Statement.{statement}

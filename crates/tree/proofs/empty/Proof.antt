@@ -1,6 +1,6 @@
 -- `tree::empty` meets its contract.
 use mathlib.Core.Path.{sym}
-use Rattle.rules.proofs.TreeLaws.{tree-empty}
+use Rattle.blocks.proofs.TreeLaws.{tree-empty}
 use Rattle.tree.proofs.empty.Statement.{statement}
 use Rattle.tree.proofs.empty.Tie as tie
 

@@ -6,7 +6,7 @@ use mathlib.Core.List.{List}
 use Prim.Native.Nat.{ℕ, _+_, _^_}
 use Rattle.rules.specs.Mirror.{mirrored}
 use Rattle.rules.specs.TreeBytes.{bitAt}
-use Rattle.rules.proofs.TreeLaws.{free-bit}
+use Rattle.blocks.proofs.TreeLaws.{free-bit}
 use Rattle.tree.proofs.Bits.{node-lt}
 use Rattle.tree.proofs.is_free.Statement.{statement}
 use Rattle.tree.proofs.is_free.Tie as tie

@@ -3,7 +3,8 @@ use borrow.Author.Needs.{needs}
 use Prim.Native.Nat.{ℕ, _<_}
 use native.Mathlib.Omega.{arith}
 use lib.Pow.{pow-pos}
-use Rattle.rules.proofs.TreeLaws.{Joined, tree-sized, tree-joined}
+use Rattle.blocks.specs.Joined.{Joined}
+use Rattle.blocks.proofs.TreeLaws.{tree-sized, tree-joined}
 use Rattle.tree.proofs.Bits.{node-lt, node-room}
 use Rattle.tree.proofs.JoinLaws.{below-missing, class-written}
 use Rattle.tree.proofs.write_class.Statement.{statement}

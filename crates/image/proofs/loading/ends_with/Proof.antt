@@ -6,7 +6,7 @@ use Prim.Native.Nat.{_+_, _-_, _≤_}
 use native.Mathlib.Omega.{arith}
 use lib.ListN.{take, drop}
 use Rattle.rules.specs.Bytes.{same}
-use Rattle.rules.proofs.BoolLaws.{and-assoc, and-true}
+use Rattle.basics.proofs.BoolLaws.{and-assoc, and-true}
 use Rattle.image.proofs.Ends.{ends-start, ends-turn, ends-all}
 use Rattle.image.proofs.loading.ends_with.Statement.{statement}
 use Rattle.image.proofs.loading.ends_with.Tie as tie

@@ -5,7 +5,7 @@ use Prim.Native.Nat.{_+_, _*_}
 use native.Mathlib.Omega.{arith}
 use borrow.Author.Tests.{not-true, not-false}
 use Rattle.rules.specs.LoadSteps.{FramedAt}
-use Rattle.rules.proofs.BytesLaws.{AllBytes}
+use Rattle.basics.proofs.BytesLaws.{AllBytes}
 use Rattle.image.proofs.Loads.{unframed, framed-at, unsound, owned-twice, tree-long, tree-place, differs, accepted}
 use Rattle.image.proofs.loading.load.Statement.{statement}
 use Rattle.image.proofs.loading.load.Tie as tie

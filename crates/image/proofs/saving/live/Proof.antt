@@ -9,8 +9,8 @@ use lib.ListN.{length, take}
 use lib.Seq.{take-all}
 use Rattle.rules.specs.declared.Connection.{Connection}
 use Rattle.rules.specs.Image.{connectionPieces}
-use Rattle.rules.proofs.SaveLaws.{count-live, count-dead, count-room}
-use Rattle.rules.proofs.ImageLaws.{connections-count, count-most}
+use Rattle.images.proofs.SaveLaws.{count-live, count-dead, count-room}
+use Rattle.images.proofs.ImageLaws.{connections-count, count-most}
 use Rattle.image.proofs.saving.live.Statement.{statement}
 use Rattle.image.proofs.saving.live.Tie as tie
 

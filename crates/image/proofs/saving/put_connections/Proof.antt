@@ -7,7 +7,7 @@ use native.Mathlib.Omega.{arith}
 use lib.ListN.{length, take}
 use lib.Seq.{sets, take-all, length-sets}
 use Rattle.rules.specs.Image.{joined, connectionPieces}
-use Rattle.rules.proofs.SaveLaws.{count-room}
+use Rattle.images.proofs.SaveLaws.{count-room}
 use Rattle.image.proofs.Puts.{live-put, dead-put}
 use Rattle.image.proofs.saving.put_connections.Statement.{statement}
 use Rattle.image.proofs.saving.put_connections.Tie as tie

@@ -2,7 +2,7 @@
 use borrow.Author.Needs.{needs}
 use mathlib.Core.Path.{refl}
 use native.Mathlib.Omega.{arith}
-use Rattle.rules.proofs.ImageLaws.{connections-count, count-most}
+use Rattle.images.proofs.ImageLaws.{connections-count, count-most}
 use Rattle.image.proofs.Puts.{too-short, image-saved}
 use Rattle.image.proofs.saving.save.Statement.{statement}
 use Rattle.image.proofs.saving.save.Tie as tie

@@ -8,7 +8,7 @@ use lib.Pow.{pow-mono}
 use Rattle.rules.specs.Ownership.{taken}
 use Rattle.rules.specs.Handles.{isLive}
 use Rattle.rules.specs.Steps.{places, ofPlan, planStep}
-use Rattle.rules.proofs.PlanLaws.{Planned, planned, planned-free, admit-1}
+use Rattle.calls.proofs.PlanLaws.{Planned, planned, planned-free, admit-1}
 use Rattle.schedule.proofs.Exits.{treed, admits, plan-says, admit-refused, admit-made}
 use Rattle.schedule.proofs.admission.admit.Statement.{statement}
 use Rattle.schedule.proofs.admission.admit.Tie as tie

@@ -7,9 +7,9 @@ use lib.Pow.{pow-mono}
 use Rattle.rules.specs.Answers.{slots}
 use Rattle.rules.specs.Handles.{connection}
 use Rattle.rules.specs.Anchor.{slotsToAnchor}
-use Rattle.rules.proofs.SoundLaws.{Numbers}
-use Rattle.rules.proofs.ScheduleLaws.{good-sound}
-use Rattle.rules.proofs.QuestionLaws.{anchor-1, anchor-3, anchor-ok}
+use Rattle.rules.specs.Sound.{Numbers}
+use Rattle.blocks.proofs.ScheduleLaws.{good-sound}
+use Rattle.calls.proofs.QuestionLaws.{anchor-1, anchor-3, anchor-ok}
 use Rattle.schedule.proofs.asking.anchor.Statement.{statement}
 use Rattle.schedule.proofs.asking.anchor.Tie as tie
 

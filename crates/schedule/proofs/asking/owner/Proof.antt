@@ -9,8 +9,8 @@ use native.Mathlib.Nat.{mod-lt}
 use native.Mathlib.Omega.{arith}
 use Rattle.rules.specs.Ownership.{owns, taken}
 use Rattle.rules.specs.Handles.{connection}
-use Rattle.rules.proofs.ScheduleLaws.{good-sound, good-tree}
-use Rattle.rules.proofs.QuestionLaws.{owner-found, owner-none, owner-leaf}
+use Rattle.blocks.proofs.ScheduleLaws.{good-sound, good-tree}
+use Rattle.calls.proofs.QuestionLaws.{owner-found, owner-none, owner-leaf}
 use Rattle.schedule.proofs.Exits.{treed}
 use Rattle.schedule.proofs.asking.owner.Statement.{statement}
 use Rattle.schedule.proofs.asking.owner.Tie as tie

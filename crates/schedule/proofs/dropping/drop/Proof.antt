@@ -4,9 +4,9 @@ use mathlib.Core.Path.{sym}
 use native.Mathlib.Nat.{le-trans}
 use native.Mathlib.Omega.{arith}
 use Rattle.rules.specs.Handles.{connection}
-use Rattle.rules.proofs.SoundLaws.{Numbers}
-use Rattle.rules.proofs.ScheduleLaws.{good-sound}
-use Rattle.rules.proofs.DropLaws.{drop-1, drop-3}
+use Rattle.rules.specs.Sound.{Numbers}
+use Rattle.blocks.proofs.ScheduleLaws.{good-sound}
+use Rattle.calls.proofs.DropLaws.{drop-1, drop-3}
 use Rattle.schedule.proofs.Exits.{treed, drops, drop-made}
 use Rattle.schedule.proofs.dropping.drop.Statement.{statement}
 use Rattle.schedule.proofs.dropping.drop.Tie as tie

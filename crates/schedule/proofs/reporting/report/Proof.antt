@@ -7,9 +7,9 @@ use native.Mathlib.Omega.{arith}
 use lib.Pow.{pow-mono}
 use borrow.Author.Tests.{not-true, not-false}
 use Rattle.rules.specs.Handles.{connection, isLive}
-use Rattle.rules.proofs.SoundLaws.{Numbers}
-use Rattle.rules.proofs.ScheduleLaws.{good-sound}
-use Rattle.rules.proofs.ReportLaws.{report-1, report-3, report-7}
+use Rattle.rules.specs.Sound.{Numbers}
+use Rattle.blocks.proofs.ScheduleLaws.{good-sound}
+use Rattle.calls.proofs.ReportLaws.{report-1, report-3, report-7}
 use Rattle.schedule.proofs.Exits.{treed, reports, report-made, aim-below}
 use Rattle.schedule.proofs.reporting.report.Statement.{statement}
 use Rattle.schedule.proofs.reporting.report.Tie as tie

@@ -9,7 +9,7 @@ use Rattle.rules.specs.Answers.{Answer}
 use Rattle.rules.specs.Classes.{free}
 use Rattle.rules.specs.TreeBytes.{treeOf}
 use Rattle.rules.specs.Report.{roomToGrow}
-use Rattle.rules.proofs.MeterLaws.{change-kept, change-shrunk, change-grown, change-tight}
+use Rattle.calls.proofs.MeterLaws.{change-kept, change-shrunk, change-grown, change-tight}
 use Rattle.schedule.proofs.reporting.settle.Statement.{statement}
 use Rattle.schedule.proofs.reporting.settle.Tie as tie
 

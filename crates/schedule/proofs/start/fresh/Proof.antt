@@ -7,8 +7,7 @@ use lib.ListN.{replicate}
 use Rattle.rules.specs.declared.Connection.{Connection}
 use Rattle.rules.specs.declared.Schedule.{Schedule}
 use Rattle.rules.specs.Good.{Good, scheduleOf, fresh}
-use Rattle.rules.proofs.ScheduleLaws.{fresh-tree}
-use Rattle.rules.proofs.NotEmpty.{fresh-is-good}
+use Rattle.blocks.proofs.ScheduleLaws.{fresh-tree, fresh-is-good}
 use Rattle.schedule.proofs.start.fresh.Statement.{statement}
 use Rattle.schedule.proofs.start.fresh.Tie as tie
 

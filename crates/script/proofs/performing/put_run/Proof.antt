@@ -2,7 +2,7 @@
 use borrow.Author.Needs.{needs}
 use native.Mathlib.Omega.{arith}
 use Rattle.rules.specs.Decimal.{decimal}
-use Rattle.rules.proofs.DecimalLaws.{decimal-length}
+use Rattle.texts.proofs.DecimalLaws.{decimal-length}
 use Rattle.text.proofs.Putting.{puts-length, number-room, three-numbers}
 use Rattle.script.proofs.performing.put_run.Statement.{statement}
 use Rattle.script.proofs.performing.put_run.Tie as tie

@@ -6,7 +6,7 @@ use Prim.Native.Nat.{ℕ, suc, _+_, _-_, _≤_}
 use native.Mathlib.Omega.{arith}
 use lib.ListN.{length, drop}
 use Rattle.rules.specs.Split.{before}
-use Rattle.rules.proofs.SplitLaws.{before-past, before-found, before-end}
+use Rattle.texts.proofs.SplitLaws.{before-past, before-found, before-end}
 use Rattle.text.proofs.reading.find.Statement.{statement}
 use Rattle.text.proofs.reading.find.Tie as tie
 

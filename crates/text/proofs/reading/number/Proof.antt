@@ -6,7 +6,7 @@ use Prim.Native.Nat.{ℕ, _+_, _-_, _*_, _^_, _<_, _≤_}
 use native.Mathlib.Omega.{arith}
 use lib.ListN.{length, getD, take}
 use Rattle.rules.specs.Decimal.{value}
-use Rattle.rules.proofs.DecimalLaws.{Digit, number-empty, number-leading, number-not-digit, number-large}
+use Rattle.texts.proofs.DecimalLaws.{Digit, number-empty, number-leading, number-not-digit, number-large}
 use Rattle.text.proofs.Digits.{DigitsTo, nothing, value-turn, digits-turn, value-all}
 use Rattle.text.proofs.reading.number.Statement.{statement}
 use Rattle.text.proofs.reading.number.Tie as tie

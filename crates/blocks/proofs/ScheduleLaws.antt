@@ -1,0 +1,202 @@
+-- What becomes of a schedule when the connection of one handle changes.
+use mathlib.Core.Path.{_≡_, refl, sym, ap, ap₂, _∙_, subst}
+use mathlib.Core.Bool.{Bool, true, false, _||_, _&&_, cond, or-true, false≢true}
+use mathlib.Core.Logic.{_≢_, by-cases}
+use mathlib.Core.List.{List}
+use Prim.Native.Nat.{ℕ, zero, suc, _^_, _<_, _≤_}
+use native.Mathlib.Decide.{ℕ-discrete, decLe}
+use native.Mathlib.Omega.{arith}
+use lib.Dec.{leb, ltb}
+use lib.ListN.{length, set, replicate, length-set}
+use lib.Seq.{getD-set-same, getD-set-other, set-getD}
+use borrow.Author.Tests.{le-leb, lt-leb, lt-ltb, le-ltb}
+use Rattle.rules.specs.declared.Connection.{Connection}
+use Rattle.rules.specs.declared.Schedule.{Schedule}
+use Rattle.rules.specs.Time.{minusMod}
+use Rattle.rules.specs.Ownership.{handles, nobody, at, belongs, owns, taken}
+use Rattle.rules.specs.Classes.{nothing, setRun}
+use Rattle.rules.specs.TreeBytes.{treeOf}
+use Rattle.rules.specs.Good.{Good, FreeSlotsZero, treeFor, scheduleOf, fresh}
+use Rattle.rules.specs.Handles.{connection}
+use Rattle.basics.proofs.BoolLaws.{bool-iff, is-false}
+use Rattle.blocks.proofs.TreeLaws.{tree-ext}
+use Rattle.rules.specs.Sound.{Numbers, sound}
+use Rattle.blocks.proofs.SoundLaws.{Sound, sound-exactly, taken-at, taken-of, scheduled-good}
+
+-- ---- nobody
+pub nobody-owns : (b : ℕ) → owns nobody b ≡ false
+unfolding owns
+nobody-owns b = refl
+
+taken-nobody : (n b : ℕ) → taken (replicate n nobody) b ≡ false
+unfolding taken
+taken-nobody zero b = refl
+taken-nobody (suc n) b = ap₂ _||_ (nobody-owns b) (taken-nobody n b)
+
+pub fresh-tree : treeOf nothing ≡ treeFor (replicate handles nobody)
+unfolding treeFor
+fresh-tree = tree-ext nothing (taken (replicate handles nobody)) (λ b l. sym (taken-nobody handles b))
+
+pub fresh-is-good : Good fresh
+unfolding fresh sound
+fresh-is-good = scheduled-good (replicate handles nobody) refl refl
+
+-- ---- the connection of one handle becomes c
+module _ (cs : List Connection) (h : ℕ) (c : Connection) where
+  pub at-same : h < length cs → at (set cs h c) h ≡ c
+  at-same l = getD-set-same cs h c nobody l
+
+  pub at-other : (j : ℕ) → j ≢ h → at (set cs h c) j ≡ at cs j
+  at-other j n = getD-set-other cs h j c nobody n
+
+-- What the connections of the other handles take.
+abbrev pub others : List Connection → ℕ → ℕ → Bool
+others cs h b = taken (set cs h nobody) b
+
+module _ (cs : List Connection) (h : ℕ) (l : h < length cs) where
+  -- Another handle's block is the others'.
+  pub others-of : (j b : ℕ) → j ≢ h → owns (at cs j) b ≡ true → others cs h b ≡ true
+  others-of j b n e = taken-of (set cs h nobody) j b (ap (λ (x : Connection). owns x b) (at-other cs h nobody j n) ∙ e)
+
+  pub others-at : (b : ℕ) → others cs h b ≡ true → (j : ℕ) × (j ≢ h) × (owns (at cs j) b ≡ true)
+  others-at b e =
+      let w = taken-at (set cs h nobody) b e in
+      let n : w .0 ≢ h = λ q. false≢true (sym (ap (λ (x : Connection). owns x b) (ap (at (set cs h nobody)) q ∙ at-same cs h nobody l) ∙ nobody-owns b) ∙ w .1) in
+      (w .0, n, ap (λ (x : Connection). owns x b) (sym (at-other cs h nobody (w .0) n)) ∙ w .1)
+
+  pub taken-set : (c : Connection) (b : ℕ) → taken (set cs h c) b ≡ owns c b || others cs h b
+  taken-set c b = bool-iff (taken (set cs h c) b) (owns c b || others cs h b) to (from (owns c b) refl)
+    where
+      to : taken (set cs h c) b ≡ true → owns c b || others cs h b ≡ true
+      to e =
+          let w = taken-at (set cs h c) b e in
+          by-cases (ℕ-discrete (w .0) h)
+          (λ q. ap (λ (v : Bool). v || others cs h b) (ap (λ (x : Connection). owns x b) (sym (ap (at (set cs h c)) q ∙ at-same cs h c l)) ∙ w .1))
+          (λ q. ap (λ (v : Bool). owns c b || v) (others-of (w .0) b q (ap (λ (x : Connection). owns x b) (sym (at-other cs h c (w .0) q)) ∙ w .1)) ∙ or-true (owns c b))
+
+      from : (v : Bool) → owns c b ≡ v → v || others cs h b ≡ true → taken (set cs h c) b ≡ true
+      from true q e = taken-of (set cs h c) h b (ap (λ (x : Connection). owns x b) (at-same cs h c l) ∙ q)
+      from false q e =
+          let w = others-at b e in
+          taken-of (set cs h c) (w .0) b (ap (λ (x : Connection). owns x b) (at-other cs h c (w .0) (w .1)) ∙ w .2)
+
+  pub taken-split : (b : ℕ) → taken cs b ≡ owns (at cs h) b || others cs h b
+  taken-split b = ap (λ (l : List Connection). taken l b) (sym (set-getD cs h nobody)) ∙ taken-set (at cs h) b
+
+  -- In a sound schedule what belongs to the handle belongs to no other.
+  pub others-apart : Sound cs → (b : ℕ) → owns (at cs h) b ≡ true → others cs h b ≡ false
+  others-apart s b e = is-false (others cs h b) (λ t. let w = others-at b t in w .1 (s .apart-ever b (w .0) h (w .2) e))
+
+  -- Sound connections stay sound where the new one has sound numbers and no block of the others.
+  pub sound-set : Sound cs → (c : Connection) → (c .live ≡ true → Numbers c) → ((b : ℕ) → owns c b ≡ true → others cs h b ≡ false) → Sound (set cs h c)
+  sound-set s c n free =
+      record {
+        numbers = λ j live.
+            by-cases (ℕ-discrete j h)
+            (λ q. subst Numbers (sym (here j q)) (n (ap (λ (x : Connection). x .live) (sym (here j q)) ∙ live)))
+            (λ q. subst Numbers (sym (at-other cs h c j q)) (s .numbers j (ap (λ (x : Connection). x .live) (sym (at-other cs h c j q)) ∙ live)));
+        apart-ever = λ b i j x y.
+            by-cases (ℕ-discrete i h)
+            (λ p. by-cases (ℕ-discrete j h)
+            (λ q. p ∙ sym q)
+            (λ q. absurd (clash b j q (owned b i p x) (owned′ b j q y))))
+            (λ p. by-cases (ℕ-discrete j h)
+            (λ q. absurd (clash b i p (owned b j q y) (owned′ b i p x)))
+            (λ q. s .apart-ever b i j (owned′ b i p x) (owned′ b j q y)));
+      }
+    where
+      here : (j : ℕ) → j ≡ h → at (set cs h c) j ≡ c
+      here j q = ap (at (set cs h c)) q ∙ at-same cs h c l
+
+      owned : (b j : ℕ) → j ≡ h → owns (at (set cs h c) j) b ≡ true → owns c b ≡ true
+      owned b j q e = ap (λ (x : Connection). owns x b) (sym (here j q)) ∙ e
+
+      owned′ : (b j : ℕ) → j ≢ h → owns (at (set cs h c) j) b ≡ true → owns (at cs j) b ≡ true
+      owned′ b j q e = ap (λ (x : Connection). owns x b) (sym (at-other cs h c j q)) ∙ e
+
+      clash : (b j : ℕ) → j ≢ h → owns c b ≡ true → owns (at cs j) b ≡ true → ⊥
+      clash b j q x y = false≢true (sym (free b x) ∙ others-of j b q y)
+
+-- ---- a run that grows, and one that shrinks
+-- The run of length L from o on, with what else is taken: once its blocks from L to M are taken, it has length M.
+pub longer : (o L M : ℕ) (x : Bool) → L ≤ M → cond (leb L o && ltb o M) true (ltb o L || x) ≡ ltb o M || x
+longer o L M x h =
+    by-cases (decLe L o)
+    (λ l. rw (le-leb L o l, le-ltb o L l) (settle (ltb o M) x))
+    (λ l. rw (lt-leb L o (omega arith), lt-ltb o L (omega arith), lt-ltb o M (omega arith)))
+  where
+    settle : (m x : Bool) → cond m true x ≡ m || x
+    settle true x = refl
+    settle false x = refl
+
+-- Once its blocks from M on are given back, it has length M, where none of them is taken by another.
+pub shorter : (o L M : ℕ) (x : Bool) → M ≤ L → (ltb o L ≡ true → x ≡ false) → cond (leb M o && ltb o L) false (ltb o L || x) ≡ ltb o M || x
+shorter o L M x h apart =
+    by-cases (decLe M o)
+    (λ l. rw (le-leb M o l, le-ltb o M l) (settle (ltb o L) x apart))
+    (λ l. rw (lt-leb M o (omega arith), lt-ltb o M (omega arith), lt-ltb o L (omega arith)))
+  where
+    settle : (m x : Bool) → (m ≡ true → x ≡ false) → cond m false (m || x) ≡ x
+    settle true x f = sym (f refl)
+    settle false x f = refl
+
+-- The blocks of a connection are the first n of each period of the run at A.
+abbrev pub Runs : ℕ → ℕ → ℕ → Connection → Type 0
+Runs k A n c = (b : ℕ) → owns c b ≡ ltb (minusMod b A (2 ^ k)) n
+
+pub live-runs : (c : Connection) → c .live ≡ true → Runs (c .k) (c .anchor) (c .length) c
+unfolding owns belongs
+live-runs c e b = rw e
+
+pub dead-runs : (k A : ℕ) (c : Connection) → c .live ≡ false → Runs k A 0 c
+unfolding owns
+dead-runs k A c e b = rw e (sym (le-ltb (minusMod b A (2 ^ k)) 0 (omega arith)))
+
+module _ (cs : List Connection) (h k A L M : ℕ) (l : h < length cs) (old : Runs k A L (at cs h)) (c : Connection) (new : Runs k A M c) where
+  -- The tree once the connection's run has grown from L to M blocks.
+  pub longer-tree : L ≤ M → treeOf (setRun k A L M true (taken cs)) ≡ treeFor (set cs h c)
+  unfolding treeFor
+  longer-tree g =
+      tree-ext (setRun k A L M true (taken cs)) (taken (set cs h c)) (λ b m.
+      rw (taken-split cs h l b, taken-set cs h l c b, old b, new b) (longer (minusMod b A (2 ^ k)) L M (others cs h b) g))
+
+  -- The tree once it has shrunk from L to M blocks.
+  pub shorter-tree : Sound cs → M ≤ L → treeOf (setRun k A M L false (taken cs)) ≡ treeFor (set cs h c)
+  unfolding treeFor
+  shorter-tree s g =
+      tree-ext (setRun k A M L false (taken cs)) (taken (set cs h c)) (λ b m.
+      rw (taken-split cs h l b, taken-set cs h l c b, old b, new b)
+      (shorter (minusMod b A (2 ^ k)) L M (others cs h b) g (λ e. others-apart cs h l s b (old b ∙ e))))
+
+-- ---- a good schedule stays good
+pub good-tree : (s : Schedule) → Good s → s .tree .bytes ≡ treeOf (taken (s .connections))
+unfolding treeFor
+good-tree s good = good .hasTree
+
+pub good-sound : (s : Schedule) → Good s → Sound (s .connections)
+good-sound s good = sound-exactly (s .connections) .0 (good .isSound)
+
+module _ (s : Schedule) (good : Good s) (h : ℕ) (below : h ≤ 63) where
+  pub inside : h < length (s .connections)
+  inside = omega (arith, good .places)
+
+  pub set-good : (c : Connection) → (c .live ≡ true → Numbers c) → ((b : ℕ) → owns c b ≡ true → others (s .connections) h b ≡ false) → Good (scheduleOf (set (s .connections) h c))
+  set-good c n free =
+      scheduled-good (set (s .connections) h c) (length-set (s .connections) h c ∙ good .places)
+      (sound-exactly (set (s .connections) h c) .1 (sound-set (s .connections) h inside (good-sound s good) c n free))
+
+  -- Every other connection is as it was.
+  pub set-other : (c : Connection) (j : ℕ) → j ≢ h → connection (scheduleOf (set (s .connections) h c)) j ≡ connection s j
+  unfolding scheduleOf
+  set-other c j n = at-other (s .connections) h c j n
+
+  pub set-same : (c : Connection) → connection (scheduleOf (set (s .connections) h c)) h ≡ c
+  unfolding scheduleOf
+  set-same c = at-same (s .connections) h c inside
+
+  -- Free slots stay zeros, where a slot that is freed is one.
+  pub set-zero : FreeSlotsZero s → (c : Connection) → (c .live ≡ false → c ≡ nobody) → FreeSlotsZero (scheduleOf (set (s .connections) h c))
+  set-zero z c n j e =
+      by-cases (ℕ-discrete j h)
+      (λ q. ap (connection (scheduleOf (set (s .connections) h c))) q ∙ set-same c ∙ n (ap (λ (x : Connection). x .live) (sym (ap (connection (scheduleOf (set (s .connections) h c))) q ∙ set-same c)) ∙ e))
+      (λ q. set-other c j q ∙ z j (ap (λ (x : Connection). x .live) (sym (set-other c j q)) ∙ e))

@@ -1,0 +1,199 @@
+-- Each case of an enum has an answer of its own: what is answered says which case it was.
+use mathlib.Core.Path.{_≡_, refl, sym, ap, _∙_}
+use mathlib.Core.Bool.{cond}
+use Prim.Native.Nat.{ℕ}
+use mathlib.Core.List.{List, [], _∷_}
+use lib.Dec.{eqb}
+use lib.ListN.{getD}
+use Rattle.rules.specs.declared.Refusal.{Refusal}
+use Rattle.rules.specs.declared.Refusal.the-variants.{HandleAbove63, HandleLive, HandleNotLive, IntervalOutside, ShareWrong, NoOpenAnchor, SampleAboveRun, BufferShort, RecordsWrong, NumbersUnsound, BlockOwnedTwice, TreeDiffers}
+use Rattle.rules.specs.declared.Admission.{Admission}
+use Rattle.rules.specs.declared.Admission.the-variants.{Placed, Refused as AdmissionRefused}
+use Rattle.rules.specs.declared.Dropping.{Dropping}
+use Rattle.rules.specs.declared.Dropping.the-variants.{Done, Refused as DroppingRefused}
+use Rattle.rules.specs.declared.Reporting.{Reporting}
+use Rattle.rules.specs.declared.Reporting.the-variants.{Kept, Grown, Shrunk, Tight, Refused as ReportingRefused}
+use Rattle.rules.specs.declared.Ownership.{Ownership}
+use Rattle.rules.specs.declared.Ownership.the-variants.{Handle, Idle}
+use Rattle.rules.specs.declared.Distance.{Distance}
+use Rattle.rules.specs.declared.Distance.the-variants.{Slots, Refused as DistanceRefused}
+use Rattle.rules.specs.declared.Saving.{Saving}
+use Rattle.rules.specs.declared.Saving.the-variants.{Size, Refused as SavingRefused}
+use Rattle.rules.specs.declared.Loading.{Loading}
+use Rattle.rules.specs.declared.Loading.the-variants.{Count, Refused as LoadingRefused}
+use Rattle.rules.specs.declared.Admitted.{Admitted}
+use Rattle.rules.specs.declared.Dropped.{Dropped}
+use Rattle.rules.specs.declared.Reported.{Reported}
+use Rattle.rules.specs.declared.Loaded.{Loaded}
+use Rattle.rules.specs.Refusals.{number}
+use Rattle.rules.specs.Answers.{Answer, Outcome, refused, ok, dropped, kept, grown, shrunk, tight, owner, idle, slots, saved, loaded, ofAdmission, ofDropping, ofReporting, ofOwnership, ofDistance, ofSaving, ofLoading, ofAdmitted, ofDropped, ofReported, ofLoaded}
+
+-- A function that can be undone takes no two values to one.
+undone : {A B : Type 0} (f : A → B) (g : B → A) → ((a : A) → g (f a) ≡ a) → {a b : A} → f a ≡ f b → a ≡ b
+undone f g back {a} {b} e = sym (back a) ∙ ap g e ∙ back b
+
+-- ---- the refusals: twelve numbers for twelve cases
+-- The refusal with a number, by going through the others.
+refusalOf : ℕ → Refusal
+refusalOf n =
+    let or : Refusal → Refusal → Refusal = λ r later. cond (eqb n (number r)) r later in
+    or HandleAbove63 (or HandleLive (or HandleNotLive
+    (or IntervalOutside (or ShareWrong (or NoOpenAnchor
+    (or SampleAboveRun (or BufferShort (or RecordsWrong
+    (or NumbersUnsound (or BlockOwnedTwice TreeDiffers))))))))))
+
+refusal-back : (r : Refusal) → refusalOf (number r) ≡ r
+unfolding refusalOf
+refusal-back HandleAbove63 = refl
+refusal-back HandleLive = refl
+refusal-back HandleNotLive = refl
+refusal-back IntervalOutside = refl
+refusal-back ShareWrong = refl
+refusal-back NoOpenAnchor = refl
+refusal-back SampleAboveRun = refl
+refusal-back BufferShort = refl
+refusal-back RecordsWrong = refl
+refusal-back NumbersUnsound = refl
+refusal-back BlockOwnedTwice = refl
+refusal-back TreeDiffers = refl
+
+pub number-injective : (a b : Refusal) → number a ≡ number b → a ≡ b
+number-injective a b e = undone number refusalOf refusal-back e
+
+-- ---- the answers: a number for each of the sheet's words, and the values beside it
+word : Answer → ℕ
+word (refused n) = 0
+word (ok F A L) = 1
+word dropped = 2
+word (kept L) = 3
+word (grown L) = 4
+word (shrunk L) = 5
+word (tight L) = 6
+word (owner h) = 7
+word idle = 8
+word (slots n) = 9
+word (saved n) = 10
+word (loaded n) = 11
+
+unfoldable pub values : Answer → List ℕ
+values (refused n) = n ∷ []
+values (ok F A L) = F ∷ A ∷ L ∷ []
+values dropped = []
+values (kept L) = L ∷ []
+values (grown L) = L ∷ []
+values (shrunk L) = L ∷ []
+values (tight L) = L ∷ []
+values (owner h) = h ∷ []
+values idle = []
+values (slots n) = n ∷ []
+values (saved n) = n ∷ []
+values (loaded n) = n ∷ []
+
+value : Answer → ℕ → ℕ
+unfolding values
+value a i = getD (values a) i 0
+
+-- The case of an enum whose refusal has the word 0, and whose other answer is there.
+abbrev by-word : {E : Type 0} → Answer → E → E → E
+by-word a e other = cond (eqb (word a) 0) e other
+
+admissionOf : Answer → Admission
+unfolding word value refusalOf
+admissionOf a = by-word a (AdmissionRefused (refusalOf (value a 0))) (Placed (value a 0) (value a 1) (value a 2))
+
+admission-back : (a : Admission) → admissionOf (ofAdmission a) ≡ a
+unfolding admissionOf
+admission-back (Placed F A L) = refl
+admission-back (AdmissionRefused r) = ap AdmissionRefused (refusal-back r)
+
+droppingOf : Answer → Dropping
+unfolding word value refusalOf
+droppingOf a = by-word a (DroppingRefused (refusalOf (value a 0))) Done
+
+dropping-back : (a : Dropping) → droppingOf (ofDropping a) ≡ a
+unfolding droppingOf
+dropping-back Done = refl
+dropping-back (DroppingRefused r) = ap DroppingRefused (refusal-back r)
+
+reportingOf : Answer → Reporting
+unfolding word value refusalOf
+reportingOf a =
+    by-word a (ReportingRefused (refusalOf (value a 0)))
+    (cond (eqb (word a) 3) (Kept (value a 0)) (cond (eqb (word a) 4) (Grown (value a 0)) (cond (eqb (word a) 5) (Shrunk (value a 0)) (Tight (value a 0)))))
+
+reporting-back : (a : Reporting) → reportingOf (ofReporting a) ≡ a
+unfolding reportingOf
+reporting-back (Kept L) = refl
+reporting-back (Grown L) = refl
+reporting-back (Shrunk L) = refl
+reporting-back (Tight L) = refl
+reporting-back (ReportingRefused r) = ap ReportingRefused (refusal-back r)
+
+ownershipOf : Answer → Ownership
+unfolding word value
+ownershipOf a = cond (eqb (word a) 7) (Handle (value a 0)) Idle
+
+ownership-back : (a : Ownership) → ownershipOf (ofOwnership a) ≡ a
+unfolding ownershipOf
+ownership-back (Handle h) = refl
+ownership-back Idle = refl
+
+distanceOf : Answer → Distance
+unfolding word value refusalOf
+distanceOf a = by-word a (DistanceRefused (refusalOf (value a 0))) (Slots (value a 0))
+
+distance-back : (a : Distance) → distanceOf (ofDistance a) ≡ a
+unfolding distanceOf
+distance-back (Slots n) = refl
+distance-back (DistanceRefused r) = ap DistanceRefused (refusal-back r)
+
+savingOf : Answer → Saving
+unfolding word value refusalOf
+savingOf a = by-word a (SavingRefused (refusalOf (value a 0))) (Size (value a 0))
+
+saving-back : (a : Saving) → savingOf (ofSaving a) ≡ a
+unfolding savingOf
+saving-back (Size n) = refl
+saving-back (SavingRefused r) = ap SavingRefused (refusal-back r)
+
+loadingOf : Answer → Loading
+unfolding word value refusalOf
+loadingOf a = by-word a (LoadingRefused (refusalOf (value a 0))) (Count (value a 0))
+
+loading-back : (a : Loading) → loadingOf (ofLoading a) ≡ a
+unfolding loadingOf
+loading-back (Count n) = refl
+loading-back (LoadingRefused r) = ap LoadingRefused (refusal-back r)
+
+-- ---- so what a call's statement determines, it determines whole
+pub ownership-injective : (a b : Ownership) → ofOwnership a ≡ ofOwnership b → a ≡ b
+ownership-injective a b e = undone ofOwnership ownershipOf ownership-back e
+
+pub reporting-injective : (a b : Reporting) → ofReporting a ≡ ofReporting b → a ≡ b
+reporting-injective a b e = undone ofReporting reportingOf reporting-back e
+
+pub distance-injective : (a b : Distance) → ofDistance a ≡ ofDistance b → a ≡ b
+distance-injective a b e = undone ofDistance distanceOf distance-back e
+
+pub saving-injective : (a b : Saving) → ofSaving a ≡ ofSaving b → a ≡ b
+saving-injective a b e = undone ofSaving savingOf saving-back e
+
+pub admitted-injective : (a b : Admitted) → ofAdmitted a ≡ ofAdmitted b → a ≡ b
+admitted-injective a b e =
+    undone ofAdmitted (λ (o : Outcome). record { answer = admissionOf (o .answer); schedule = o .schedule })
+    (λ r. ap (λ (x : Admission). record { answer = x; schedule = r .schedule }) (admission-back (r .answer))) e
+
+pub dropped-injective : (a b : Dropped) → ofDropped a ≡ ofDropped b → a ≡ b
+dropped-injective a b e =
+    undone ofDropped (λ (o : Outcome). record { answer = droppingOf (o .answer); schedule = o .schedule })
+    (λ r. ap (λ (x : Dropping). record { answer = x; schedule = r .schedule }) (dropping-back (r .answer))) e
+
+pub reported-injective : (a b : Reported) → ofReported a ≡ ofReported b → a ≡ b
+reported-injective a b e =
+    undone ofReported (λ (o : Outcome). record { answer = reportingOf (o .answer); schedule = o .schedule })
+    (λ r. ap (λ (x : Reporting). record { answer = x; schedule = r .schedule }) (reporting-back (r .answer))) e
+
+pub loaded-injective : (a b : Loaded) → ofLoaded a ≡ ofLoaded b → a ≡ b
+loaded-injective a b e =
+    undone ofLoaded (λ (o : Outcome). record { answer = loadingOf (o .answer); schedule = o .schedule })
+    (λ r. ap (λ (x : Loading). record { answer = x; schedule = r .schedule }) (loading-back (r .answer))) e

@@ -1,0 +1,12 @@
+-- The laws of the calls, in the order to read them.
+pub mod RefusalLaws
+pub mod AnswerLaws
+pub mod AdmitLaws
+pub mod PlanLaws
+pub mod DropLaws
+pub mod MeterLaws
+pub mod ReportLaws
+pub mod QuestionLaws
+pub mod RoomLaws
+pub mod LiveLaws
+pub mod CallLaws

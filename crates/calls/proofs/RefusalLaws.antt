@@ -1,0 +1,80 @@
+-- The laws of a call's checks.
+use mathlib.Core.Path.{_≡_, refl, sym, ap, _∙_}
+use mathlib.Core.Bool.{Bool, true, false, cond}
+use mathlib.Core.List.{List, [], _∷_}
+use mathlib.Core.Logic.{_↔_, _⊎_, inl, inr, ⊎-elim}
+use Prim.Native.Nat.{ℕ}
+use Rattle.rules.specs.declared.Refusal.{Refusal}
+use Rattle.rules.specs.declared.Schedule.{Schedule}
+use Rattle.rules.specs.Refusals.{number, Check, decided}
+use Rattle.rules.specs.Answers.{Answer, Outcome, refused, refusing}
+
+-- No check refuses.
+abbrev pub Passed : List Check → Type 0
+Passed [] = Unit {0}
+Passed (c ∷ cs) = (c .refuses ≡ false) × Passed cs
+
+-- A call is refused, or all its checks pass and it is carried out.
+pub decided-cases {ℓ κ} : {A : Type ℓ} (P : A → Type κ) (cs : List Check) (refuse : ℕ → A) (done : A) → ((why : Refusal) → P (refuse (number why))) → (Passed cs → P done) → P (decided cs refuse done)
+unfolding decided
+decided-cases P [] refuse done f g = g tt
+decided-cases P (c ∷ cs) refuse done f g = go (c .refuses) refl (λ q. decided-cases P cs refuse done f (λ p. g (q, p)))
+  where
+    go : (v : Bool) → c .refuses ≡ v → (c .refuses ≡ false → P (decided cs refuse done)) → P (cond (c .refuses) (refuse (number (c .why))) (decided cs refuse done))
+    go true q later = rw q (f (c .why))
+    go false q later = rw q (later q)
+
+-- Where all checks pass, it is carried out.
+pub decided-passed {ℓ} : {A : Type ℓ} (cs : List Check) (refuse : ℕ → A) (done : A) → Passed cs → decided cs refuse done ≡ done
+unfolding decided
+decided-passed [] refuse done p = refl
+decided-passed (c ∷ cs) refuse done p = rw (p .0) (decided-passed cs refuse done (p .1))
+
+-- The number that the first refusing check gives.
+abbrev pub FirstRefusal : List Check → ℕ → Type 0
+FirstRefusal [] n = ⊥
+FirstRefusal (c ∷ cs) n = ((c .refuses ≡ true) × (number (c .why) ≡ n)) ⊎ ((c .refuses ≡ false) × FirstRefusal cs n)
+
+-- It is the number that the call is refused with.
+pub decided-first {ℓ} : {A : Type ℓ} (cs : List Check) (refuse : ℕ → A) (done : A) {n : ℕ} → FirstRefusal cs n → decided cs refuse done ≡ refuse n
+unfolding decided
+decided-first [] refuse done e = absurd e
+decided-first (c ∷ cs) refuse done e = ⊎-elim (λ w. rw (w .0) (ap refuse (w .1))) (λ w. rw (w .0) (decided-first cs refuse done (w .1))) e
+
+-- What is decided goes through a function.
+pub decided-map {ℓ κ} : {A : Type ℓ} {B : Type κ} (g : A → B) (cs : List Check) (refuse : ℕ → A) (done : A) → g (decided cs refuse done) ≡ decided cs (λ n. g (refuse n)) (g done)
+unfolding decided
+decided-map g [] refuse done = refl
+decided-map g (c ∷ cs) refuse done = go (c .refuses) (decided-map g cs refuse done)
+  where
+    go : (v : Bool) → g (decided cs refuse done) ≡ decided cs (λ n. g (refuse n)) (g done)
+        → g (cond v (refuse (number (c .why))) (decided cs refuse done)) ≡ cond v (g (refuse (number (c .why)))) (decided cs (λ n. g (refuse n)) (g done))
+    go true later = refl
+    go false later = later
+
+-- "A refusal returns its number only; the schedule .. as .. before the call": of every call that answers with a schedule.
+pub refusal-keeps : (cs : List Check) (s : Schedule) (done : Outcome) → ((n : ℕ) → done .answer ≡ refused n → ⊥)
+    → (n : ℕ) → decided cs (refusing s) done .answer ≡ refused n → decided cs (refusing s) done .schedule ≡ s
+refusal-keeps cs s done never n =
+    decided-cases (λ o. o .answer ≡ refused n → o .schedule ≡ s) cs (refusing s) done (λ m e. refl) (λ p e. absurd (never n e))
+
+pub refused-same : {m n : ℕ} → refused m ≡ refused n → m ≡ n
+refused-same e = cc
+
+-- A call is refused with n exactly if the first of its checks that refuses has the number n.
+pub refused-exactly : (cs : List Check) (done : Answer) → ((n : ℕ) → done ≡ refused n → ⊥) → (n : ℕ) → (decided cs refused done ≡ refused n) ↔ FirstRefusal cs n
+unfolding decided
+refused-exactly [] done never n = (never n, λ e. absurd e)
+refused-exactly (c ∷ cs) done never n = (go (c .refuses) refl (refused-exactly cs done never n .0), decided-first (c ∷ cs) refused done)
+  where
+    go : (v : Bool) → c .refuses ≡ v → (decided cs refused done ≡ refused n → FirstRefusal cs n)
+        → cond (c .refuses) (refused (number (c .why))) (decided cs refused done) ≡ refused n → FirstRefusal (c ∷ cs) n
+    go true q later e = inl (q, refused-same (rw q at e))
+    go false q later e = inr (q, later (rw q at e))
+
+-- The same of a call that answers with a schedule.
+pub refusing-exactly : (cs : List Check) (s : Schedule) (done : Outcome) → ((n : ℕ) → done .answer ≡ refused n → ⊥) → (n : ℕ) → (decided cs (refusing s) done .answer ≡ refused n) ↔ FirstRefusal cs n
+refusing-exactly cs s done never n =
+    let e = decided-map (λ (o : Outcome). o .answer) cs (refusing s) done in
+    let r = refused-exactly cs (done .answer) never n in
+    (λ x. r .0 (sym e ∙ x), λ x. e ∙ r .1 x)

@@ -1,0 +1,1 @@
+//! Laws of records, images, save and load: no code.

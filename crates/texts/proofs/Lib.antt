@@ -1,0 +1,4 @@
+-- The laws of texts, in the order to read them.
+pub mod DecimalLaws
+pub mod SplitLaws
+pub mod CommandLaws

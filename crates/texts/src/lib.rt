@@ -1,0 +1,1 @@
+//! Laws of decimal numbers, of lines and of commands: no code.
