@@ -10,9 +10,14 @@ use lib.Pow.{pow-add, mod-mod-pow, shr-lt}
 use lib.Arith.{digits-lt}
 use Rattle.rules.specs.Below.{any}
 use Rattle.rules.specs.Time.{listBlocks}
+use Rattle.rules.specs.Ownership.{largestK}
 use Rattle.rules.specs.Classes.{depth, periods, classTaken, free}
 use Rattle.basics.proofs.BoolLaws.{bool-iff, is-false}
 use Rattle.basics.proofs.BelowLaws.{any-of, any-at, any-ext}
+
+-- A sound k is within the depth of the tree: cited wherever a class is asked for, as nothing else ties the two numbers.
+pub within-depth : {k : ℕ} → k ≤ largestK → k ≤ depth
+within-depth h = omega arith
 
 -- What is taken repeats with the list.
 abbrev pub Periodic : (ℕ → Bool) → Type 0

@@ -18,7 +18,7 @@ use Rattle.rules.specs.Good.{Good, scheduleOf}
 use Rattle.basics.proofs.BoolLaws.{bool-iff, both, is-false, not-true-is-false}
 use Rattle.basics.proofs.BelowLaws.{any-none, none-at}
 use Rattle.blocks.proofs.EndlessTime.{belongs-mod}
-use Rattle.blocks.proofs.ClassLaws.{Periodic, free-ever}
+use Rattle.blocks.proofs.ClassLaws.{within-depth, Periodic, free-ever}
 
 -- ---- the numbers of one connection
 pub numbers-sound : (c : Connection) → (soundNumbers c ≡ true) ↔ Numbers c
@@ -128,7 +128,7 @@ unfolding owns
 owns-mod c b n = go (c .live) refl
   where
     go : (v : Bool) → c .live ≡ v → c .live && belongs c (b % 512) ≡ c .live && belongs c b
-    go true l = ap (λ (v : Bool). c .live && v) (belongs-mod c b 9 (n l .deep))
+    go true l = ap (λ (v : Bool). c .live && v) (belongs-mod c b depth (within-depth (n l .deep)))
     go false l = rw l
 
 -- What sound connections take repeats with the list.

@@ -32,6 +32,7 @@ use Rattle.rules.specs.Sound.{Numbers}
 use Rattle.blocks.proofs.SoundLaws.{class-free-ever}
 use Rattle.blocks.proofs.ScheduleLaws.{others, others-at, set-good, set-zero, set-other, set-same, inside}
 use Rattle.calls.proofs.RefusalLaws.{decided-cases}
+use Rattle.blocks.proofs.ClassLaws.{within-depth}
 
 -- ---- the interval
 pub interval-bounds : (i : ℕ) → isInterval i ≡ true → (6 ≤ i) × (i ≤ 3200)
@@ -48,26 +49,20 @@ pub k-fits : (i : ℕ) → 6 ≤ i → 6 * 2 ^ kOf i ≤ i
 unfolding kOf
 k-fits i h = leb-true _ i (largest-is-largest largestK (λ k. leb (6 * 2 ^ k) i) .holds (le-leb 6 i h))
 
--- "k is the largest with 6 × 2^k not above the interval."
-pub k-largest : (i : ℕ) → isInterval i ≡ true → (6 * 2 ^ kOf i ≤ i) × ((k : ℕ) → 6 * 2 ^ k ≤ i → k ≤ kOf i)
+-- "k is the largest with 6 × 2^k not above the interval", of those up to the largest k there is.
+pub k-largest : (i : ℕ) → isInterval i ≡ true → (6 * 2 ^ kOf i ≤ i) × ((k : ℕ) → k ≤ largestK → 6 * 2 ^ k ≤ i → k ≤ kOf i)
 unfolding kOf
 k-largest i e =
     let b = interval-bounds i e in
     let r = largest-is-largest largestK (λ k. leb (6 * 2 ^ k) i) in (
       k-fits i (b .0),
-      λ k h.
+      λ k m h.
           by-cases (decLe k (kOf i))
           (λ l. l)
-          (λ l.
-          by-cases (decLe k 9)
-          (λ m. absurd (false≢true (sym (r .last k (omega arith) m) ∙ le-leb (6 * 2 ^ k) i h)))
-          (λ m.
-          let m′ : 10 ≤ k = omega arith in
-          let g : 2 ^ 10 ≤ 2 ^ k = pow-mono m′ in
-          absurd (omega arith))),
+          (λ l. absurd (false≢true (sym (r .last k (omega arith) m) ∙ le-leb (6 * 2 ^ k) i h))),
     )
 
-pub k-is : (k i : ℕ) → k ≤ 9 → 6 * 2 ^ k ≤ i → i < 12 * 2 ^ k → kOf i ≡ k
+pub k-is : (k i : ℕ) → k ≤ largestK → 6 * 2 ^ k ≤ i → i < 12 * 2 ^ k → kOf i ≡ k
 unfolding kOf
 k-is k i h l m =
     largest-unique largestK (λ j. leb (6 * 2 ^ j) i) k h (le-leb 6 i (omega (arith, pow-pos k))) (le-leb (6 * 2 ^ k) i l)
@@ -78,10 +73,10 @@ k-is k i h l m =
 -- The subrated events are as far apart as the longest power of two of base intervals that is not above the interval.
 pub interval-longest : (i A floor ceiling : ℕ) → isInterval i ≡ true
     → (subratedInterval (subrating (newConnection (kOf i) A floor ceiling)) ≤ i)
-    × ((k : ℕ) → 2 ^ k * baseInterval ≤ i → 2 ^ k * baseInterval ≤ subratedInterval (subrating (newConnection (kOf i) A floor ceiling)))
+    × ((k : ℕ) → k ≤ largestK → 2 ^ k * baseInterval ≤ i → 2 ^ k * baseInterval ≤ subratedInterval (subrating (newConnection (kOf i) A floor ceiling)))
 interval-longest i A floor ceiling e =
     let l = k-largest i e in
-    (omega (arith, l .0), λ k h. let m : 2 ^ k ≤ 2 ^ kOf i = pow-mono (l .1 k (omega arith)) in omega arith)
+    (omega (arith, l .0), λ k d h. let m : 2 ^ k ≤ 2 ^ kOf i = pow-mono (l .1 k d (omega arith)) in omega arith)
 
 -- ---- the share
 pub share-bounds : (f c F : ℕ) → shareWrong f c F ≡ false → (1 ≤ f) × (f ≤ c) × (c ≤ F)
@@ -168,7 +163,7 @@ module _ (s : Schedule) (good : Good s) (h i f c : ℕ) (a : Admissible s h i f 
 
   pub anchor-free : RunFreeEver (s .connections) (kOf i) f (anchorFor s (kOf i) f)
   anchor-free =
-      open-ever (s .connections) (kOf i) f (anchorFor s (kOf i) f) (good .isSound) (k-small i) .0
+      open-ever (s .connections) (kOf i) f (anchorFor s (kOf i) f) (good .isSound) (within-depth (k-small i)) .0
       (ap (isOpen (taken (s .connections)) (kOf i) f) anchor-given ∙ first-open (taken (s .connections)) (kOf i) f (a .place .0) (a .place .1) .1)
 
   pub new-numbers : Numbers (newConnection (kOf i) (anchorFor s (kOf i) f) f c)

@@ -2,7 +2,6 @@
 pub mod RefusalLaws
 pub mod AnswerLaws
 pub mod AdmitLaws
-pub mod PlanLaws
 pub mod DropLaws
 pub mod MeterLaws
 pub mod ReportLaws

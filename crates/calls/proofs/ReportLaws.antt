@@ -30,6 +30,7 @@ use Rattle.blocks.proofs.ScheduleLaws.{others, others-at, others-apart, inside,
 use Rattle.calls.proofs.MeterLaws.{moved-most, need-holds, target-bounds, target-enough, target-next, change-grown, change-cases, change-names}
 use Rattle.calls.proofs.AnswerLaws.{values}
 use Rattle.calls.proofs.RefusalLaws.{FirstRefusal, decided-cases, decided-first, decided-passed}
+use Rattle.blocks.proofs.ClassLaws.{within-depth}
 
 -- ---- each exit
 module _ (s : Schedule) (h sample : ℕ) where
@@ -127,7 +128,7 @@ module _ (s : Schedule) (good : Good s) (h sample : ℕ) (r : Reportable s h sam
       (λ x.
       is-false (others (s .connections) h b) (λ t.
       let w = others-at (s .connections) h (inside s good h (r .handle)) b t in
-      false≢true (sym (room-ever s good c (old-numbers .deep) .0 q b (w .0) (sym (minusMod-back b (c .anchor) (factor c) (pow-pos (c .k))) ∙ ap (λ (y : ℕ). (c .anchor + y) % factor c) x)) ∙ w .2)))
+      false≢true (sym (room-ever s good c (within-depth (old-numbers .deep)) .0 q b (w .0) (sym (minusMod-back b (c .anchor) (factor c) (pow-pos (c .k))) ∙ ap (λ (y : ℕ). (c .anchor + y) % factor c) x)) ∙ w .2)))
       (λ x. mine (omega (arith, ltb-true o (c .length + 1) (both (c .live) _ e .1)))))
       (λ l q e. mine (ltb-true o (c .length) (both (c .live) _ e .1)))
 
@@ -173,7 +174,7 @@ grown-exactly s good h sample r =
     let c = connection s h in
     let f = taken (s .connections) in
     let e : report s h sample .answer ≡ change (c .length) (aim c sample) (roomToGrow f c) = answer-is s h sample r in
-    let ever = room-ever s good c (old-numbers s good h sample r .deep) in
+    let ever = room-ever s good c (within-depth (old-numbers s good h sample r .deep)) in
     (λ q. to c (aim c sample) (roomToGrow f c) (sym e ∙ q) (ever .0), λ w. e ∙ change-grown (c .length) (aim c sample) (roomToGrow f c) (w .0) (ever .1 (w .1)))
   where
     to : (c : Connection) (a : ℕ) (room : Bool) {X : Type 0} → change (c .length) a room ≡ grown (c .length + 1) → (room ≡ true → X) → (c .length < a) × X

@@ -40,7 +40,8 @@ module _ (S T : System) (among : (run : Run) → S run → T run) where
         tree = λ run s. d .tree run (among run s);
         room = λ run m x i f c s. d .room run m x i f c (among (more run m) s);
         restore = λ run m bytes s. d .restore run m bytes (among (more run m) s);
-        same = λ run m save bytes n s. d .same run m save bytes n (among (more (more run m) save) s);
+        saves = λ run m s. d .saves run m (among (more run m) s);
+        same = λ run m bytes n s. d .same run m bytes n (among (more run m) s);
       }
 
   demand3-among : Demand3 T → Demand3 S

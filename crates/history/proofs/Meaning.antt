@@ -9,7 +9,7 @@ use borrow.Author.Tests.{ltb-false, not-false}
 use Rattle.rules.specs.declared.Schedule.{Schedule}
 use Rattle.rules.specs.Time.{blockMicros}
 use Rattle.rules.specs.Core.{isInterval, intervalMicros}
-use Rattle.rules.specs.Ownership.{belongs, owns}
+use Rattle.rules.specs.Ownership.{largestK, belongs, owns}
 use Rattle.rules.specs.Good.{Good, treeFor}
 use Rattle.rules.specs.Handles.{connection}
 use Rattle.rules.specs.Answers.{Answer, ok}
@@ -25,21 +25,21 @@ use Rattle.images.proofs.SaveLaws.{save-whole}
 use Rattle.images.proofs.ImageLaws.{load-exactly, load-saves}
 use Rattle.history.specs.Calls.{Admit, Save, Load, Lent, Result, ruledCall, ruled}
 use Rattle.history.specs.Runs.{Run, now, By}
-use Rattle.history.specs.Demands.{IntervalsMeant, EventsMeant, ResultsGiven, ConnectionsGiven, TreeGiven, Reaches, RoomAsked, RoomExact, RestoreExact, SavesSame, Demand2}
+use Rattle.history.specs.Demands.{IntervalsMeant, EventsMeant, ResultsGiven, ConnectionsGiven, TreeGiven, Reaches, RoomAsked, RoomExact, RestoreExact, SavesImage, SavesSame, Demand2}
 use Rattle.history.proofs.Following.{now-after, result-after, result-is, now-good}
 
 -- ---- intervals
 interval-meant : (s : Schedule) (x i f c F A L : ℕ) → admit s x i f c .answer ≡ ok F A L
-    → (isInterval i ≡ true) × (F * blockMicros ≤ intervalMicros i) × ((k : ℕ) → 2 ^ k * blockMicros ≤ intervalMicros i → 2 ^ k ≤ F)
+    → (isInterval i ≡ true) × (F * blockMicros ≤ intervalMicros i) × ((k : ℕ) → k ≤ largestK → 2 ^ k * blockMicros ≤ intervalMicros i → 2 ^ k ≤ F)
 unfolding admitDone
 interval-meant s x i f c F A L =
     admit-cases s x i f c
-    (λ o. o .answer ≡ ok F A L → (isInterval i ≡ true) × (F * blockMicros ≤ intervalMicros i) × ((k : ℕ) → 2 ^ k * blockMicros ≤ intervalMicros i → 2 ^ k ≤ F))
+    (λ o. o .answer ≡ ok F A L → (isInterval i ≡ true) × (F * blockMicros ≤ intervalMicros i) × ((k : ℕ) → k ≤ largestK → 2 ^ k * blockMicros ≤ intervalMicros i → 2 ^ k ≤ F))
     (λ n e. let z : _≡_ {A = ℕ} 0 1 = cc in absurd (omega arith))
     (λ a e.
     let p : 2 ^ kOf i ≡ F = cc in
     let l = k-largest i (a .interval) in
-    (a .interval, omega (arith, p, l .0), λ k h. subst (λ (y : ℕ). 2 ^ k ≤ y) p (pow-le-pow-right (lit≤ tt) (l .1 k (omega arith)))))
+    (a .interval, omega (arith, p, l .0), λ k d h. subst (λ (y : ℕ). 2 ^ k ≤ y) p (pow-le-pow-right (lit≤ tt) (l .1 k d (omega arith)))))
 
 intervals : IntervalsMeant (By ruled)
 unfolding ruledCall
@@ -105,19 +105,21 @@ restore run m bytes by p =
     let l = load-exactly (now run) (bytes .list) (bytes .small) in
     (λ w. l .0 (w .0, sym q ∙ w .1), λ w. let a = l .1 w in (a .0, q ∙ a .1))
 
-same : SavesSame (By ruled)
+saves : SavesImage (By ruled)
 unfolding ruledCall
-same run m save bytes n by p a ps long =
-    let s = now run in
-    let q = result-is run m (by .0) (Load bytes) p in
-    let image-is : image (m .result .schedule .connections) ≡ bytes .list =
-    ap (λ (t : Result). image (t .schedule .connections)) q
-    ∙ load-saves s (bytes .list) n (bytes .small) (sym (ap (λ (t : Result). t .answer) q) ∙ a) in
-    let w = save-whole (m .result .schedule) (save .request .lent .buffer) (bytes .list) image-is long in
-    let e = by .1 ∙ ap (λ c. ruledCall (m .result .schedule) c (save .request .lent)) ps in (
+saves run m by p long =
+    let w = save-whole (now run) (m .request .lent .buffer) (image (now run .connections)) refl long in
+    let e = result-is run m by Save p in (
       ap (λ (t : Result). t .answer) e ∙ ap (λ (v : Written). v .answer) w,
       ap (λ (t : Result). t .lent .buffer) e ∙ ap (λ (v : Written). v .buffer) w,
     )
+
+same : SavesSame (By ruled)
+unfolding ruledCall
+same run m bytes n by p a form =
+    let q = result-is run m by (Load bytes) p in
+    ap (λ (t : Result). image (t .schedule .connections)) q
+    ∙ load-saves (now run) (bytes .list) n (bytes .small) (sym (ap (λ (t : Result). t .answer) q) ∙ a)
 
 pub meanings : Demand2 (By ruled)
 meanings =
@@ -129,5 +131,6 @@ meanings =
       tree = tree;
       room = room;
       restore = restore;
+      saves = saves;
       same = same;
     }

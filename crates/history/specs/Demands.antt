@@ -12,13 +12,13 @@ use Rattle.rules.specs.declared.Refusal.{Refusal as Named}
 use Rattle.rules.specs.declared.Refusal.the-variants.{NoOpenAnchor}
 use Rattle.rules.specs.Time.{blockMicros}
 use Rattle.rules.specs.Core.{isInterval, intervalMicros, Reserved}
-use Rattle.rules.specs.Ownership.{handles, factor, subrating, owns}
+use Rattle.rules.specs.Ownership.{handles, largestK, factor, subrating, owns}
 use Rattle.rules.specs.Sound.{sound}
 use Rattle.rules.specs.Good.{treeFor}
 use Rattle.rules.specs.Refusals.{number}
 use Rattle.rules.specs.Handles.{connection, aboveHandles, isLive}
 use Rattle.rules.specs.Admit.{kOf, intervalOutside, shareWrong}
-use Rattle.rules.specs.Image.{IsImage}
+use Rattle.rules.specs.Image.{image, IsImage}
 use Rattle.rules.specs.Answers.{Answer, refused, ok, saved, loaded}
 use Rattle.history.specs.Calls.{Bytes, Save, Request, Result, ruled}
 use Rattle.history.specs.Runs.{Start, after, Made, Run, begun, more, now, historyOf, followed, System}
@@ -46,12 +46,12 @@ pub record Demand1 (S : System) : Type 0 where
 
 -- ---- demand 2
 -- "Intervals and subrated events mean what the Bluetooth Core Specification says": an accepted interval is one, and F blocks are the
--- longest power of two of blocks, to 512, that it holds;
+-- longest power of two of blocks, up to the largest, that it holds;
 abbrev pub IntervalsMeant : System → Type 0
 IntervalsMeant S =
     (run : Run) (m : Made) (x interval floor ceiling F A L : ℕ) → S (more run m)
     → AdmissionOf (m .request .call) x interval floor ceiling → m .result .answer ≡ ok F A L
-    → (isInterval interval ≡ true) × (F * blockMicros ≤ intervalMicros interval) × ((k : ℕ) → 2 ^ k * blockMicros ≤ intervalMicros interval → 2 ^ k ≤ F)
+    → (isInterval interval ≡ true) × (F * blockMicros ≤ intervalMicros interval) × ((k : ℕ) → k ≤ largestK → 2 ^ k * blockMicros ≤ intervalMicros interval → 2 ^ k ≤ F)
 
 -- and a block belongs to a connection exactly if it is reserved for it: one of its subrated events, or of the continuation events after one.
 abbrev pub EventsMeant : System → Type 0
@@ -106,14 +106,21 @@ RestoreExact S =
     (run : Run) (m : Made) (bytes : Bytes) → S (more run m) → RestoreOf (m .request .call) bytes
     → ((n : ℕ) × (m .result .answer ≡ loaded n)) ↔ ((cs : List Connection) × (length cs ≡ handles) × (sound cs ≡ true) × IsImage (bytes .list) cs)
 
--- "and saving that schedule gives the same bytes."
+-- "and saving that schedule gives the same bytes": a save with room writes the image of the schedule,
+abbrev pub SavesImage : System → Type 0
+SavesImage S =
+    (run : Run) (m : Made) → S (more run m) → m .request .call ≡ Save → length (image (now run .connections)) ≤ length (m .request .lent .buffer)
+    → (m .result .answer ≡ saved (length (image (now run .connections))))
+    × (m .result .lent .buffer ≡ image (now run .connections) ++ drop (length (image (now run .connections))) (m .request .lent .buffer))
+
+-- and that is what was restored, where what was restored has the form in which images are saved.
+abbrev pub SavedForm : List ℕ → Type 0
+SavedForm bytes = (cs : List Connection) × (length cs ≡ handles) × (sound cs ≡ true) × (bytes ≡ image cs)
+
 abbrev pub SavesSame : System → Type 0
 SavesSame S =
-    (run : Run) (m save : Made) (bytes : Bytes) (n : ℕ) → S (more (more run m) save)
-    → RestoreOf (m .request .call) bytes → m .result .answer ≡ loaded n
-    → save .request .call ≡ Save → length (bytes .list) ≤ length (save .request .lent .buffer)
-    → (save .result .answer ≡ saved (length (bytes .list)))
-    × (save .result .lent .buffer ≡ bytes .list ++ drop (length (bytes .list)) (save .request .lent .buffer))
+    (run : Run) (m : Made) (bytes : Bytes) (n : ℕ) → S (more run m) → RestoreOf (m .request .call) bytes → m .result .answer ≡ loaded n
+    → SavedForm (bytes .list) → image (m .result .schedule .connections) ≡ bytes .list
 
 pub record Demand2 (S : System) : Type 0 where
   pub intervals : IntervalsMeant S
@@ -123,6 +130,7 @@ pub record Demand2 (S : System) : Type 0 where
   pub tree : TreeGiven S
   pub room : RoomExact S
   pub restore : RestoreExact S
+  pub saves : SavesImage S
   pub same : SavesSame S
 
 -- ---- demand 3

@@ -13,6 +13,7 @@ use Rattle.rules.specs.Image.{Piece, written, joined, connectionPiece}
 use Rattle.rules.specs.Load.{piecesIn, piecesOf, fieldIn, handleIn, connectionIn}
 use Rattle.rules.specs.Sound.{Numbers}
 use Rattle.basics.proofs.BytesLaws.{AllBytes, bytes-take, bytes-drop, little-number, number-little}
+use Rattle.blocks.proofs.ClassLaws.{within-depth}
 
 -- The kind and the length of a record fit in two bytes each.
 pub record Fitting (r : Piece) : Type 0 where
@@ -82,7 +83,7 @@ pub record Narrow (c : Connection) : Type 0 where
 -- Sound numbers do.
 pub numbers-narrow : (c : Connection) → Numbers c → Narrow c
 numbers-narrow c n =
-    let g : 2 ^ (c .k) ≤ 2 ^ 9 = pow-mono (n .deep) in
+    let g : 2 ^ (c .k) ≤ 2 ^ 9 = pow-mono (within-depth (n .deep)) in
     omega arith
 
 -- Its handle and its numbers are read back.

@@ -29,6 +29,7 @@ use Rattle.blocks.proofs.SoundLaws.{numbers-sound, Sound, sound-exactly, all-so
 use Rattle.blocks.proofs.ScheduleLaws.{nobody-owns, at-same, at-other, others, others-at, sound-set, live-runs, dead-runs, longer-tree}
 use Rattle.calls.proofs.AdmitLaws.{RunFreeEver, open-ever, open-nobody}
 use Rattle.images.proofs.ImageLaws.{rising-exactly, at-free}
+use Rattle.blocks.proofs.ClassLaws.{within-depth}
 
 -- ---- the test of the numbers, one record after the other
 module _ (h : ℕ) (r : Piece) (rs : List Piece) where
@@ -171,7 +172,7 @@ module _ (g : ℕ) (xs : List Piece) (r : Piece) (e : soundPieces g (xs ++ (r �
     unfolding isOpen connectionIn
     run-apart f =
         let c = connectionIn r in
-        let ever = open-ever (restored xs) (c .k) (c .length) (c .anchor) sound-still (numbers-here .deep) .0 f in
+        let ever = open-ever (restored xs) (c .k) (c .length) (c .anchor) sound-still (within-depth (numbers-here .deep)) .0 f in
         let s = sound-set (restored xs) (handleIn r) inside (sound-exactly (restored xs) .0 sound-still) c (λ l. numbers-here)
         (λ b o. is-false (others (restored xs) (handleIn r) b) (λ t.
         let w = others-at (restored xs) (handleIn r) inside b t in
@@ -189,7 +190,7 @@ module _ (g : ℕ) (xs : List Piece) (r : Piece) (e : soundPieces g (xs ++ (r �
         λ j l b h m.
         is-false (owns (at (restored xs) h) b) (λ o.
         owner-other h b o (s .apart-ever b h (handleIn r) (owner-still h b o) (owns-here j b l m))) in
-        false≢true (sym f ∙ open-ever (restored xs) (c .k) (c .length) (c .anchor) sound-still (numbers-here .deep) .1 ever))
+        false≢true (sym f ∙ open-ever (restored xs) (c .k) (c .length) (c .anchor) sound-still (within-depth (numbers-here .deep)) .1 ever))
 
   -- The tree with its run is that of the whole.
   pub run-tree : treeOf (setRun (connectionIn r .k) (connectionIn r .anchor) 0 (connectionIn r .length) true (taken (restored xs))) ≡ treeFor (restored (xs ++ (r ∷ [])))

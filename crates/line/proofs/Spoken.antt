@@ -16,7 +16,7 @@ use Rattle.rules.specs.Bytes.{same}
 use Rattle.rules.specs.Text.{text}
 use Rattle.rules.specs.Words.{spaced}
 use Rattle.rules.specs.Commands.{wordOf, numbersOf, lineOf, says}
-use Rattle.rules.specs.LineSteps.{numbersIn}
+use Rattle.texts.specs.LineSteps.{numbersIn}
 use Rattle.basics.proofs.BytesLaws.{same-exactly}
 use Rattle.texts.proofs.CommandLaws.{says-line, says-bad, numbers-spaced, numbers-only}
 use Rattle.text.specs.declared.Numbers.{Numbers}

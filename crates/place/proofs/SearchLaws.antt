@@ -17,7 +17,8 @@ use Rattle.rules.specs.Mirror.{mirrored}
 use Rattle.rules.specs.TreeBytes.{bitAt}
 use Rattle.rules.specs.Refusals.{number}
 use Rattle.rules.specs.Admit.{isOpen, firstOpen}
-use Rattle.rules.specs.Steps.{gives, refuses, placeStep}
+use Rattle.rules.specs.Steps.{gives, refuses}
+use Rattle.place.specs.Steps.{placeStep}
 use Rattle.basics.proofs.BoolLaws.{is-false}
 use Rattle.basics.proofs.BelowLaws.{every-at, every-of, least-is, least-is-none}
 use Rattle.blocks.proofs.MirrorLaws.{mirror-lt, mirror-mirror, mirror-by-half}

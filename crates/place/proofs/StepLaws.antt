@@ -10,7 +10,8 @@ use Rattle.rules.specs.Core.{isInterval}
 use Rattle.rules.specs.Mirror.{mirrored}
 use Rattle.rules.specs.Refusals.{number}
 use Rattle.rules.specs.Admit.{intervalOutside, kOf, shareWrong, firstOpen}
-use Rattle.rules.specs.Steps.{Step, gives, places, passes, refuses, intervalStep, shareStep, placeAt, placeStep, planStep}
+use Rattle.rules.specs.Steps.{Step, gives, places, passes, refuses}
+use Rattle.place.specs.Steps.{intervalStep, shareStep, placeAt, placeStep, planStep}
 use Rattle.calls.proofs.AdmitLaws.{k-is}
 
 pub interval-gives : (k i : ℕ) → k ≤ 9 → 6 * 2 ^ k ≤ i → i < 12 * 2 ^ k → (6 ≤ i) × (i ≤ 3200) → gives k ≡ intervalStep i

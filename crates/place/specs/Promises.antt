@@ -9,7 +9,7 @@ use Rattle.rules.specs.declared.Plan.{Plan}
 use Rattle.rules.specs.Classes.{classTaken}
 use Rattle.rules.specs.Mirror.{mirrored}
 use Rattle.rules.specs.TreeBytes.{bitAt}
-use Rattle.rules.specs.Steps.{ofPlace, ofPlan, placeStep, planStep}
+use Rattle.place.specs.Steps.{ofPlace, ofPlan, placeStep, planStep}
 use Rattle.tree.specs.Promises.{ByTree}
 
 -- Room for each class of the deepest row, and for each of its anchors.

@@ -3,7 +3,7 @@ ghost use mathlib.Core.Path.{_≡_};
 ghost use Prim.Native.Nat.{_<_, _≤_, _^_};
 ghost use lib.ListN.{length};
 ghost use Rattle.rules.specs.Classes.{depth};
-ghost use Rattle.rules.specs.Steps.{ofInterval, ofShare, intervalStep, shareStep};
+ghost use Rattle.place.specs.Steps.{ofInterval, ofShare, intervalStep, shareStep};
 ghost use Rattle.tree.specs.Promises.{IsTree};
 ghost use Rattle.place.specs.Promises.{Anchors, Reads, Measures, IsRoom, Searches, Places, Plans, Long};
 use rules::Interval;

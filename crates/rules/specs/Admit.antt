@@ -52,16 +52,19 @@ noOpenAnchor (some p) = false
 abbrev pub newConnection : ℕ → ℕ → ℕ → ℕ → Connection
 newConnection k A floor ceiling = record { live = true; k = k; anchor = A; length = floor; floor = floor; ceiling = ceiling; estimate = floor * blockMicros - guardMicros }
 
--- "Checks 1, 2, 4, 5, 6."
+-- "Checks 1, 2, 4, 5, 6": 1 is of the handle alone, and the others ask of a schedule only whether the handle is live and which blocks are taken.
+abbrev pub placeChecks : Bool → (ℕ → Bool) → ℕ → ℕ → ℕ → List Check
+placeChecks live blocks interval floor ceiling =
+    check HandleLive live
+    ∷ check IntervalOutside (intervalOutside interval)
+    ∷ check ShareWrong (shareWrong floor ceiling (2 ^ kOf interval))
+    ∷ check NoOpenAnchor (noOpenAnchor (firstOpen blocks (kOf interval) floor))
+    ∷ []
+
 unfoldable pub admitChecks : Schedule → ℕ → ℕ → ℕ → ℕ → List Check
 unfolding isInterval kOf firstOpen taken
 admitChecks s handle interval floor ceiling =
-    check HandleAbove63 (aboveHandles handle)
-    ∷ check HandleLive (isLive s handle)
-    ∷ check IntervalOutside (intervalOutside interval)
-    ∷ check ShareWrong (shareWrong floor ceiling (2 ^ kOf interval))
-    ∷ check NoOpenAnchor (noOpenAnchor (firstOpen (taken (s .connections)) (kOf interval) floor))
-    ∷ []
+    check HandleAbove63 (aboveHandles handle) ∷ placeChecks (isLive s handle) (taken (s .connections)) interval floor ceiling
 
 -- The anchor that is taken.
 unfoldable pub anchorFor : Schedule → ℕ → ℕ → ℕ

@@ -29,5 +29,4 @@ pub mod Decimal
 pub mod Split
 pub mod Words
 pub mod Commands
-pub mod LineSteps
 pub mod Program

@@ -23,12 +23,13 @@ use Rattle.rules.specs.Admit.{newConnection, admit}
 use Rattle.rules.specs.Drop.{dropDone, drop}
 use Rattle.rules.specs.Meter.{moved, need, movedMeter, change, newLength}
 use Rattle.rules.specs.Report.{roomToGrow, metered, aim, reportAnswer, reportLength, reportDone, report}
-use Rattle.rules.specs.Steps.{places, refuses, ofPlan, planStep}
+use Rattle.rules.specs.Steps.{places, refuses}
+use Rattle.place.specs.Steps.{ofPlan, planStep}
 use Rattle.rules.specs.Sound.{Numbers}
 use Rattle.blocks.proofs.ScheduleLaws.{inside, good-tree, good-sound, longer-tree, shorter-tree, live-runs, dead-runs}
 use Rattle.calls.proofs.AnswerLaws.{reporting-injective}
 use Rattle.calls.proofs.AdmitLaws.{admit-good}
-use Rattle.calls.proofs.PlanLaws.{carry, admit-plan}
+use Rattle.place.proofs.PlanLaws.{carry, admit-plan}
 use Rattle.calls.proofs.DropLaws.{drop-ok, drop-good}
 use Rattle.calls.proofs.MeterLaws.{change-cases, target-bounds}
 use Rattle.calls.proofs.ReportLaws.{report-ok, report-good}

@@ -16,7 +16,7 @@ use Rattle.rules.specs.Text.{text}
 use Rattle.rules.specs.Words.{spaced}
 use Rattle.rules.specs.Commands.{lineOf, allFit, says}
 use Rattle.rules.specs.Decimal.{fits}
-use Rattle.rules.specs.LineSteps.{numbersIn}
+use Rattle.texts.specs.LineSteps.{numbersIn}
 use Rattle.basics.proofs.BoolLaws.{is-false}
 use Rattle.basics.proofs.BytesLaws.{same-exactly}
 use Rattle.texts.proofs.CommandLaws.{says-only, bad-only, numbers-spaced, numbers-only}

@@ -12,7 +12,7 @@ use lib.Seq.{drop-cons, drop-drop, drop-length, drop-set-lt, length-take-le, tak
 use borrow.Author.Tests.{eq-eqb, ne-eqb}
 use Rattle.rules.specs.Decimal.{numberIn}
 use Rattle.rules.specs.Split.{before}
-use Rattle.rules.specs.LineSteps.{withFirst, numbersIn}
+use Rattle.texts.specs.LineSteps.{withFirst, numbersIn}
 use Rattle.texts.proofs.SplitLaws.{before-take, before-le}
 use Rattle.texts.proofs.CommandLaws.{numbers-only}
 use Rattle.text.specs.declared.Numbers.{Numbers}

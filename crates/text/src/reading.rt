@@ -6,7 +6,7 @@ ghost use lib.ListN.{length, take, drop};
 ghost use Rattle.rules.specs.Bytes.{same};
 ghost use Rattle.rules.specs.Decimal.{numberIn};
 ghost use Rattle.rules.specs.Split.{before};
-ghost use Rattle.rules.specs.LineSteps.{ofNumber, numbersIn};
+ghost use Rattle.texts.specs.LineSteps.{ofNumber, numbersIn};
 ghost use Rattle.text.specs.Promises.{numbersFor};
 use crate::Numbers;
 use rules::Number;

@@ -20,7 +20,7 @@ use Rattle.rules.specs.Decimal.{decimal, value, fits, numberIn}
 use Rattle.rules.specs.Split.{split, before}
 use Rattle.rules.specs.Words.{spaced}
 use Rattle.rules.specs.Commands.{numbersOf, lineOf, allFit, named, fieldsNamed, guess, says}
-use Rattle.rules.specs.LineSteps.{withFirst, numbersIn}
+use Rattle.texts.specs.LineSteps.{withFirst, numbersIn}
 use Rattle.basics.proofs.BoolLaws.{both}
 use Rattle.basics.proofs.BytesLaws.{same-exactly}
 use Rattle.texts.proofs.SplitLaws.{Without, split-piece, split-none, before-without, before-take, before-of, before-of-all}

@@ -4,8 +4,10 @@ use mathlib.Core.Path.{_≡_, sym, ap, _∙_}
 use mathlib.Core.Bool.{false}
 use Prim.Native.Nat.{ℕ, _≤_, _^_}
 use native.Mathlib.Nat.{le-trans}
+use Rattle.rules.specs.Classes.{depth}
 use Rattle.rules.specs.Admit.{intervalOutside, kOf, shareWrong}
-use Rattle.rules.specs.Steps.{ofInterval, ofShare, ofPlace}
+use Rattle.place.specs.Steps.{ofInterval, ofShare, ofPlace}
+use Rattle.blocks.proofs.ClassLaws.{within-depth}
 use Rattle.calls.proofs.AdmitLaws.{k-small, share-bounds}
 use Rattle.place.proofs.StepLaws.{interval-told, outside-told, share-told, wrong-told, place-told, nowhere-told, plan-2, plan-4, plan-5, plan-6, plan-ok}
 use Rattle.place.proofs.plan.Statement.{statement}
@@ -18,8 +20,8 @@ returns c f e = plan-2 f _ _ _ _ (c .if1 .taken)
 k-told : (c : tie.After-k) → (intervalOutside (c .before .before .before .before .args .slots) ≡ false) × (c .k .given .0 .0 ≡ kOf (c .before .before .before .before .args .slots))
 k-told c = interval-told _ _ (ap ofInterval (sym (c .k .given .1)) ∙ c .before .before .k-of .ensures)
 
-k-below : (c : tie.After-k) → c .k .given .0 .0 ≤ 9
-k-below c = rw (k-told c .1) (k-small (c .before .before .before .before .args .slots))
+k-below : (c : tie.After-k) → c .k .given .0 .0 ≤ depth
+k-below c = rw (k-told c .1) (within-depth (k-small (c .before .before .before .before .args .slots)))
 
 -- the share fits the factor
 share-is : (c : tie.After-enum-told2) → shareWrong (c .before .before .before .before .before .before .before .before .before .args .floor) (c .before .before .before .before .before .before .before .before .before .args .ceiling) (2 ^ c .before .before .before .before .before .k .given .0 .0) ≡ false

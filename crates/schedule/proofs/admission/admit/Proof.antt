@@ -7,11 +7,13 @@ use native.Mathlib.Omega.{arith}
 use lib.Pow.{pow-mono}
 use Rattle.rules.specs.Ownership.{taken}
 use Rattle.rules.specs.Handles.{isLive}
-use Rattle.rules.specs.Steps.{places, ofPlan, planStep}
-use Rattle.calls.proofs.PlanLaws.{Planned, planned, planned-free, admit-1}
+use Rattle.rules.specs.Steps.{places}
+use Rattle.place.specs.Steps.{ofPlan, planStep}
+use Rattle.place.proofs.PlanLaws.{Planned, planned, planned-free, admit-1}
 use Rattle.schedule.proofs.Exits.{treed, admits, plan-says, admit-refused, admit-made}
 use Rattle.schedule.proofs.admission.admit.Statement.{statement}
 use Rattle.schedule.proofs.admission.admit.Tie as tie
+use Rattle.blocks.proofs.ClassLaws.{within-depth}
 
 -- where the plan goes, and the bounds that it tells
 placed : (c : tie.After-k) → planStep (isLive (c .before .before .before .before .before .before .before .args .t1) (c .before .before .before .before .before .before .before .args .handle)) (taken (c .before .before .before .before .before .before .before .args .t1 .connections)) (c .before .before .before .before .before .before .before .args .interval) (c .before .before .before .before .before .before .before .args .floor) (c .before .before .before .before .before .before .before .args .ceiling) ≡ places (c .k .given .0 .0) (c .k .given .0 .1 .0)
@@ -23,7 +25,7 @@ bounds : (c : tie.After-k) → Planned (c .k .given .0 .0) (c .k .given .0 .1 .0
 bounds c = planned _ _ _ _ _ _ _ (placed c)
 
 small : (c : tie.After-k) → 2 ^ c .k .given .0 .0 ≤ 512
-small c = pow-mono (bounds c .deep)
+small c = pow-mono (within-depth (bounds c .deep))
 
 mul-old : tie.Need-mul-old
 mul-old c = search needs
@@ -63,7 +65,7 @@ set-run-requires c κs =
     let k = c .before .before .before in
     let a = k .before .before .before .before .before .before .before in
     let b = bounds k in
-    (b .deep, b .anchored, omega arith, le-trans (b .floored) (b .whole), treed (a .args .t1) (a .pre))
+    (within-depth (b .deep), b .anchored, omega arith, le-trans (b .floored) (b .whole), treed (a .args .t1) (a .pre))
 
 mul-c : tie.Need-mul-c
 mul-c c = search needs
@@ -75,7 +77,7 @@ cast-factor : tie.Need-cast-factor
 cast-factor c = search needs
 
 factor-requires : tie.Need-factor-requires
-factor-requires c κs = bounds (c .before .before .before .before) .deep
+factor-requires c κs = within-depth (bounds (c .before .before .before .before) .deep)
 
 cast-t24 : tie.Need-cast-t24
 cast-t24 c = search needs

@@ -12,6 +12,7 @@ use Rattle.blocks.proofs.ScheduleLaws.{good-sound}
 use Rattle.calls.proofs.QuestionLaws.{anchor-1, anchor-3, anchor-ok}
 use Rattle.schedule.proofs.asking.anchor.Statement.{statement}
 use Rattle.schedule.proofs.asking.anchor.Tie as tie
+use Rattle.blocks.proofs.ClassLaws.{within-depth}
 
 returns : tie.Need-returns
 returns c = sym (anchor-1 (c .before .args .t1) _ _ (c .if1 .taken))
@@ -30,13 +31,13 @@ cast-minus-mod : tie.Need-cast-minus-mod
 cast-minus-mod c = search needs
 
 minus-mod-requires : tie.Need-minus-mod-requires
-minus-mod-requires c κs = numbers (c .before) .deep
+minus-mod-requires c κs = within-depth (numbers (c .before) .deep)
 
 mul-t15 : tie.Need-mul-t15
 mul-t15 c =
     let n = numbers (c .before .before) in
     let a = c .before .before .before .before .before .args in
-    let g : 2 ^ connection (a .t1) (a .handle) .k ≤ 512 = pow-mono (n .deep) in
+    let g : 2 ^ connection (a .t1) (a .handle) .k ≤ 512 = pow-mono (within-depth (n .deep)) in
     omega (arith, c .minus-mod .ensures .below)
 
 returns-2 : tie.Need-returns-2

@@ -6,12 +6,13 @@ use lib.Dec.{ltb}
 use Rattle.rules.specs.Ownership.{belongs, owns}
 use Rattle.schedule.proofs.asking.owns.Statement.{statement}
 use Rattle.schedule.proofs.asking.owns.Tie as tie
+use Rattle.blocks.proofs.ClassLaws.{within-depth}
 
 cast-minus-mod : tie.Need-cast-minus-mod
 cast-minus-mod c = search needs
 
 minus-mod-requires : tie.Need-minus-mod-requires
-minus-mod-requires c κs = c .before .before .pre (c .before .if1 .taken) .deep
+minus-mod-requires c κs = within-depth (c .before .before .pre (c .before .if1 .taken) .deep)
 
 cast-result : tie.Need-cast-result
 cast-result c = search needs

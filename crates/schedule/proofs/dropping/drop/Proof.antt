@@ -10,6 +10,7 @@ use Rattle.calls.proofs.DropLaws.{drop-1, drop-3}
 use Rattle.schedule.proofs.Exits.{treed, drops, drop-made}
 use Rattle.schedule.proofs.dropping.drop.Statement.{statement}
 use Rattle.schedule.proofs.dropping.drop.Tie as tie
+use Rattle.blocks.proofs.ClassLaws.{within-depth}
 
 mul-c : tie.Need-mul-c
 mul-c c = search needs
@@ -32,7 +33,7 @@ set-run-requires c κs =
     let t = c .before .before .before in
     let a = t .before .before .before in
     let n = numbers t in
-    (n .deep, n .anchored, omega arith, le-trans (n .ceiled) (n .whole), treed (a .args .t1) (a .pre))
+    (within-depth (n .deep), n .anchored, omega arith, le-trans (n .ceiled) (n .whole), treed (a .args .t1) (a .pre))
 
 nobody-requires : tie.Need-nobody-requires
 nobody-requires c κs = search needs

@@ -13,6 +13,7 @@ use Rattle.calls.proofs.ReportLaws.{report-1, report-3, report-7}
 use Rattle.schedule.proofs.Exits.{treed, reports, report-made, aim-below}
 use Rattle.schedule.proofs.reporting.report.Statement.{statement}
 use Rattle.schedule.proofs.reporting.report.Tie as tie
+use Rattle.blocks.proofs.ClassLaws.{within-depth}
 
 mul-c : tie.Need-mul-c
 mul-c c = search needs
@@ -38,7 +39,7 @@ move-meter-requires c κs =
     let e = c .before .before in
     let a = e .before .before .before .before .args in
     let n = numbers e in
-    let g : 2 ^ connection (a .t1) (a .handle) .k ≤ 512 = pow-mono (n .deep) in
+    let g : 2 ^ connection (a .t1) (a .handle) .k ≤ 512 = pow-mono (within-depth (n .deep)) in
     omega (arith, n, c .if3 .left)
 
 settle-requires : tie.Need-settle-requires

@@ -12,6 +12,7 @@ use Rattle.rules.specs.Report.{roomToGrow}
 use Rattle.calls.proofs.MeterLaws.{change-kept, change-shrunk, change-grown, change-tight}
 use Rattle.schedule.proofs.reporting.settle.Statement.{statement}
 use Rattle.schedule.proofs.reporting.settle.Tie as tie
+use Rattle.blocks.proofs.ClassLaws.{within-depth}
 
 cast-k : tie.Need-cast-k
 cast-k c = search needs
@@ -60,7 +61,7 @@ set-run-requires-2 c κs =
     let a = c .before .before .before .before .before .before .before .before .before in
     let n = a .pre .0 in
     let above : a .args .c .length < a .args .aim = omega arith in
-    (n .deep, n .anchored, omega arith, le-trans (omega (arith, a .pre .1)) (n .whole), a .pre .2)
+    (within-depth (n .deep), n .anchored, omega arith, le-trans (omega (arith, a .pre .1)) (n .whole), a .pre .2)
 
 add-t16 : tie.Need-add-t16
 add-t16 c = search needs

@@ -4,7 +4,7 @@ use mathlib.Core.Path.{_≡_, refl, sym, ap, _∙_}
 use Prim.Native.Nat.{_+_, _-_, _<_, _≤_}
 use native.Mathlib.Omega.{arith}
 use lib.ListN.{length, take, drop}
-use Rattle.rules.specs.LineSteps.{ofNumber, numbersIn}
+use Rattle.texts.specs.LineSteps.{ofNumber, numbersIn}
 use Rattle.text.specs.Promises.{numbersFor}
 use Rattle.text.proofs.Rows.{ahead, ahead-nothing, found-within, turn-ends, turn-unspaced, turn-wrong, turn-right, row-more, row-over, Filled, filled-more, filled-all}
 use Rattle.text.proofs.reading.numbers_from.Statement.{statement}

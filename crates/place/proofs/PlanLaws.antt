@@ -1,25 +1,25 @@
 -- An admission as a plan that is carried out.
 use mathlib.Core.Path.{_≡_, refl, sym, ap}
 use mathlib.Core.Bool.{Bool, true, false}
-use mathlib.Core.List.{[], _∷_}
 use mathlib.Core.Option.{Option·getD}
 use Prim.Native.Nat.{ℕ, _^_, _<_, _≤_}
 use native.Mathlib.Omega.{arith}
 use lib.ListN.{set}
 use borrow.Author.Tests.{lt-ltb, le-ltb}
 use Rattle.rules.specs.declared.Schedule.{Schedule}
-use Rattle.rules.specs.declared.Refusal.the-variants.{HandleAbove63, HandleLive, IntervalOutside, ShareWrong, NoOpenAnchor}
-use Rattle.rules.specs.Ownership.{taken}
+use Rattle.rules.specs.declared.Refusal.the-variants.{HandleAbove63}
+use Rattle.rules.specs.Ownership.{largestK, taken}
 use Rattle.rules.specs.Mirror.{mirrored}
 use Rattle.rules.specs.Good.{scheduleOf}
-use Rattle.rules.specs.Refusals.{number, check}
+use Rattle.rules.specs.Refusals.{number}
 use Rattle.rules.specs.Answers.{Outcome, refusing, ok}
 use Rattle.rules.specs.Handles.{isLive}
-use Rattle.rules.specs.Admit.{intervalOutside, kOf, shareWrong, firstOpen, noOpenAnchor, newConnection, admitChecks, anchorFor, admitDone, admit}
-use Rattle.rules.specs.Steps.{Step, gives, places, passes, refuses, planStep}
+use Rattle.rules.specs.Admit.{kOf, firstOpen, newConnection, placeChecks, admitChecks, anchorFor, admitDone, admit}
+use Rattle.rules.specs.Steps.{Step, gives, places, passes, refuses}
+use Rattle.place.specs.Steps.{planStep}
 use Rattle.blocks.proofs.MirrorLaws.{mirror-lt}
 use Rattle.calls.proofs.AdmitLaws.{k-small, share-bounds}
 use Rattle.calls.proofs.RefusalLaws.{decided-map, decided-cases}
 
 -- What becomes of a plan.
 abbrev pub carry : Schedule → ℕ → ℕ → ℕ → Step → Outcome
@@ -38,12 +38,12 @@ module _ (s : Schedule) (h i f c : ℕ) where
   admit-plan p =
       rw (le-ltb 63 h p)
       (sym (decided-map (carry s h f c)
-      (check HandleLive (isLive s h) ∷ check IntervalOutside (intervalOutside i) ∷ check ShareWrong (shareWrong f c (2 ^ kOf i)) ∷ check NoOpenAnchor (noOpenAnchor (firstOpen (taken (s .connections)) (kOf i) f)) ∷ [])
+      (placeChecks (isLive s h) (taken (s .connections)) i f c)
       refuses (places (kOf i) (mirrored (kOf i) (Option·getD (firstOpen (taken (s .connections)) (kOf i) f) 0)))))
 
 -- What a plan that places tells: the bounds of its numbers.
 pub record Planned (k A f c : ℕ) : Type 0 where
-  pub deep : k ≤ 9
+  pub deep : k ≤ largestK
   pub anchored : A < 2 ^ k
   pub positive : 1 ≤ f
   pub floored : f ≤ c
@@ -58,7 +58,7 @@ pub planned : (live : Bool) (t : ℕ → Bool) (i f c k A : ℕ) → planStep li
 unfolding planStep
 planned live t i f c k A =
     decided-cases (λ x. x ≡ places k A → Planned k A f c)
-    (check HandleLive live ∷ check IntervalOutside (intervalOutside i) ∷ check ShareWrong (shareWrong f c (2 ^ kOf i)) ∷ check NoOpenAnchor (noOpenAnchor (firstOpen t (kOf i) f)) ∷ [])
+    (placeChecks live t i f c)
     refuses (places (kOf i) (mirrored (kOf i) (Option·getD (firstOpen t (kOf i) f) 0)))
     (λ n e. let z : _≡_ {A = ℕ} 0 1 = cc in absurd (omega arith))
     (λ p e.

@@ -1,0 +1,2 @@
+-- What reading a line finds.
+pub mod LineSteps
