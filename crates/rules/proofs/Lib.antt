@@ -23,6 +23,7 @@ pub mod AnswerLaws
 pub mod BytesLaws
 pub mod StoreLaws
 pub mod PieceLaws
+pub mod RisingLaws
 pub mod ImageLaws
 pub mod SaveLaws
 pub mod FrameLaws
