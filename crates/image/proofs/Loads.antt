@@ -17,8 +17,9 @@ use Rattle.rules.specs.Good.{Good, treeFor, scheduleOf}
 use Rattle.rules.specs.Refusals.{number}
 use Rattle.rules.specs.Answers.{Outcome, refusing, loaded, ofLoaded}
 use Rattle.rules.specs.Bytes.{same}
-use Rattle.rules.specs.Load.{soundPieces, restored, load}
-use Rattle.rules.specs.LoadSteps.{ofFrame, frameStep, records, FramedAt}
+use Rattle.rules.specs.Load.{soundRecords, restored, load}
+use Rattle.rules.specs.LoadSteps.{ofFrame, frameStep, pieceAt, records, FramedAt}
+use Rattle.basics.proofs.BelowLaws.{length-tabulate}
 use Rattle.basics.proofs.BytesLaws.{AllBytes}
 use Rattle.blocks.proofs.TreeLaws.{tree-sized}
 use Rattle.images.proofs.ImageLaws.{load-good}
@@ -47,10 +48,10 @@ module _ (s : Schedule) (good : Good s) (bytes : List ℕ) (b : AllBytes bytes) 
   framed-at n f q p = frame-framed bytes n b (subst (λ (x : Frame). ofFrame x ≡ frameStep bytes) q p)
 
   module _ (n : ℕ) (f : FramedAt bytes n) where
-    pub unsound : (r : Loaded) → ofLoaded r ≡ refusing s (number NumbersUnsound) → soundPieces 0 (records bytes n) ≡ false → Loads s bytes r
+    pub unsound : (r : Loaded) → ofLoaded r ≡ refusing s (number NumbersUnsound) → soundRecords (records bytes n) ≡ false → Loads s bytes r
     unsound r e p = loads r (e ∙ load-10 s bytes n (framed-right bytes n b f) p)
 
-    module _ (p : soundPieces 0 (records bytes n) ≡ true) (x : Restored) (t : Restores bytes n x) where
+    module _ (p : soundRecords (records bytes n) ≡ true) (x : Restored) (t : Restores bytes n x) where
       pub owned-twice : (r : Loaded) → ofLoaded r ≡ refusing s (number BlockOwnedTwice) → x .apart ≡ false → Loads s bytes r
       owned-twice r e q = loads r (e ∙ load-11 s bytes n (framed-right bytes n b f) p (sym (t .says) ∙ q))
 

@@ -5,10 +5,10 @@ use mathlib.Core.Logic.{_↔_}
 use mathlib.Core.List.{List, [], _∷_, _++_, map, append-nil, append-assoc}
 use Prim.Native.Nat.{ℕ, zero, suc, _+_, _-_, _*_, _<_, _≤_}
 use native.Mathlib.Omega.{arith}
-use lib.Dec.{leb, ltb}
+use lib.Dec.{leb}
 use lib.ListN.{length, set, replicate, length-append, length-replicate, replicate-append-replicate}
 use lib.Seq.{set-at}
-use borrow.Author.Tests.{le-leb, leb-true, lt-ltb, ltb-true, eq-eqb, ne-eqb, not-false}
+use borrow.Author.Tests.{le-leb, leb-true, eq-eqb, ne-eqb, not-false}
 use Rattle.rules.specs.declared.Connection.{Connection}
 use Rattle.rules.specs.declared.Schedule.{Schedule}
 use Rattle.rules.specs.Ownership.{handles, nobody, at, owns, taken, ownedTwice}
@@ -18,7 +18,7 @@ use Rattle.rules.specs.Refusals.{number}
 use Rattle.rules.specs.Answers.{Outcome, refusing, loaded}
 use Rattle.rules.specs.Bytes.{little, littleNumber, same}
 use Rattle.rules.specs.Image.{Piece, written, joined, countPiece, connectionPiece, connectionPieces, treePiece, pieces, image, IsImage}
-use Rattle.rules.specs.Load.{piecesOf, countIn, shaped, recordsWrong, connectionsIn, handleIn, connectionIn, soundPieces, numbersUnsound, restored, treeIn, connectionsOf, loadChecks, loadDone, load}
+use Rattle.rules.specs.Load.{piecesOf, countIn, shaped, recordsWrong, connectionsIn, handleIn, connectionIn, soundRecords, numbersUnsound, restored, treeIn, connectionsOf, loadChecks, loadDone, load}
 use Rattle.basics.proofs.BoolLaws.{both}
 use Rattle.basics.proofs.BelowLaws.{any-ext}
 use Rattle.blocks.proofs.TreeLaws.{tree-sized, tree-ext}
@@ -26,6 +26,7 @@ use Rattle.rules.specs.Sound.{Numbers}
 use Rattle.blocks.proofs.SoundLaws.{numbers-sound, all-sound-at, scheduled-good}
 use Rattle.calls.proofs.RefusalLaws.{Passed, decided-cases, decided-passed}
 use Rattle.basics.proofs.BytesLaws.{AllBytes, bytes-append, little-bytes, little-number, number-little, same-exactly}
+use Rattle.images.proofs.RisingLaws.{soundFrom, sound-from, rising-exactly}
 use Rattle.images.proofs.PieceLaws.{Fitting, Each, written-length, joined-append, pieces-joined, pieces-bytes, numbers-narrow, connection-read, connection-written}
 
 -- How many connections are live.
@@ -359,36 +360,14 @@ restored-cleared h (c ∷ cs) l n = go (c .live) refl (restored-cleared (suc h) 
         ∙ slots-set h c (cleared cs)
     go false q later = later ∙ slots-shift h (cleared cs)
 
--- What the check of the numbers tests, of one record and those after it.
-pub record Rising (h : ℕ) (r : Piece) (rs : List Piece) : Type 0 where
-  pub below : handleIn r < handles
-  pub above : h ≤ handleIn r
-  pub numbers : soundNumbers (connectionIn r) ≡ true
-  pub later : soundPieces (suc (handleIn r)) rs ≡ true
-
-pub rising-exactly : (h : ℕ) (r : Piece) (rs : List Piece) → (soundPieces h (r ∷ rs) ≡ true) ↔ Rising h r rs
-unfolding soundPieces
-rising-exactly h r rs =
-    let x = ltb (handleIn r) handles in
-    let y = leb h (handleIn r) in
-    let z = soundNumbers (connectionIn r) in
-    let w = soundPieces (suc (handleIn r)) rs in (
-      λ e.
-          let p = both (x && y && z) w e in
-          let q = both (x && y) z (p .0) in
-          let s = both x y (q .0) in
-          record { below = ltb-true (handleIn r) handles (s .0); above = leb-true h (handleIn r) (s .1); numbers = q .1; later = p .1 },
-      λ p. ap₂ _&&_ (ap₂ _&&_ (ap₂ _&&_ (lt-ltb (handleIn r) handles (p .below)) (le-leb h (handleIn r) (p .above))) (p .numbers)) (p .later),
-    )
-
 -- The handles of a schedule's records rise.
-pieces-sound : (h g : ℕ) (cs : List Connection) → h ≤ g → g + length cs ≡ handles → AllNumbers cs → soundPieces h (connectionPieces g cs) ≡ true
-unfolding soundPieces connectionPieces
+pieces-sound : (h g : ℕ) (cs : List Connection) → h ≤ g → g + length cs ≡ handles → AllNumbers cs → soundFrom h (connectionPieces g cs) ≡ true
+unfolding soundFrom connectionPieces
 pieces-sound h g [] m l n = refl
 pieces-sound h g (c ∷ cs) m l n = go (c .live) refl (λ j k. pieces-sound j (suc g) cs k (omega arith) (λ i. n (suc i)))
   where
-    go : (v : Bool) → c .live ≡ v → ((j : ℕ) → j ≤ suc g → soundPieces j (connectionPieces (suc g) cs) ≡ true)
-        → soundPieces h (cond v (connectionPiece g c ∷ connectionPieces (suc g) cs) (connectionPieces (suc g) cs)) ≡ true
+    go : (v : Bool) → c .live ≡ v → ((j : ℕ) → j ≤ suc g → soundFrom j (connectionPieces (suc g) cs) ≡ true)
+        → soundFrom h (cond v (connectionPiece g c ∷ connectionPieces (suc g) cs) (connectionPieces (suc g) cs)) ≡ true
     go true q later =
         let r = live-read g c (omega arith) (n 0 q) q in
         rising-exactly h (connectionPiece g c) (connectionPieces (suc g) cs) .1
@@ -396,7 +375,7 @@ pieces-sound h g (c ∷ cs) m l n = go (c .live) refl (λ j k. pieces-sound j (s
           below = rw (r .0) (omega arith);
           above = rw (r .0) m;
           numbers = ap soundNumbers (r .1) ∙ numbers-sound c .1 (n 0 q);
-          later = ap (λ (j : ℕ). soundPieces (suc j) (connectionPieces (suc g) cs)) (r .0) ∙ later (suc g) (omega arith);
+          later = ap (λ (j : ℕ). soundFrom (suc j) (connectionPieces (suc g) cs)) (r .0) ∙ later (suc g) (omega arith);
         })
     go false q later = later h (omega arith)
 
@@ -449,7 +428,7 @@ laid-one r rs c b n w =
     }
 
 -- The connections of rising records have these records.
-laid : (rs : List Piece) (h : ℕ) → h ≤ handles → soundPieces h rs ≡ true → Each IsConnection rs → Each (λ r. AllBytes (r .payload)) rs → Laid h rs
+laid : (rs : List Piece) (h : ℕ) → h ≤ handles → soundFrom h rs ≡ true → Each IsConnection rs → Each (λ r. AllBytes (r .payload)) rs → Laid h rs
 laid [] h l e c b = laid-from h handles [] l laid-none
 laid (r ∷ rs) h l e c b =
     let p = rising-exactly h r rs .0 e in
@@ -459,7 +438,7 @@ laid (r ∷ rs) h l e c b =
 record Accepted (bytes : List ℕ) (rs : List Piece) : Type 0 where
   records : joined rs ≡ bytes
   shape : shaped rs ≡ true
-  rising : soundPieces 0 (connectionsIn rs) ≡ true
+  rising : soundRecords (connectionsIn rs) ≡ true
   separate : apart (connectionsOf rs) ≡ true
   tree : treeIn rs ≡ treeFor (connectionsOf rs)
 
@@ -473,7 +452,7 @@ passed-exactly bytes =
           record {
             records = same-exactly (joined rs) bytes .0 (q .0);
             shape = q .1;
-            rising = not-false (soundPieces 0 (connectionsIn rs)) (p .1 .0);
+            rising = not-false (soundRecords (connectionsIn rs)) (p .1 .0);
             separate = not-false (apart (connectionsOf rs)) (p .1 .1 .0);
             tree = tree .0 (not-false (same (treeIn rs) (treeFor (connectionsOf rs))) (p .1 .1 .1 .0));
           },
@@ -511,7 +490,7 @@ module _ (cs : List Connection) (long : length cs ≡ handles) (isSound : sound 
       record {
         records = refl;
         shape = pieces-shaped cs long;
-        rising = ap (soundPieces 0) (read-inside .0) ∙ pieces-sound 0 0 cs (omega arith) (omega arith) numbered;
+        rising = ap soundRecords (read-inside .0) ∙ sound-from (connectionPieces 0 cs) ∙ pieces-sound 0 0 cs (omega arith) (omega arith) numbered;
         separate = ap apart read-connections ∙ cleared-apart cs ∙ both (allSound cs) (apart cs) isSound .1;
         tree = read-inside .1 ∙ sym (ap treeFor read-connections ∙ cleared-tree cs);
       }
@@ -547,7 +526,7 @@ unfolding connectionsOf image pieces countPiece treePiece sound
 restores-parts bytes first each last k₁ s₁ n c k₃ b a =
     let cs = connectionsOf (first ∷ (each ++ (last ∷ []))) in
     let p = inside first each last k₁ c k₃ in
-    let w = laid each 0 (omega arith) (ap (soundPieces 0) (sym (p .0)) ∙ a .rising) c (each-left (λ r. AllBytes (r .payload)) each (last ∷ []) (b .1)) in
+    let w = laid each 0 (omega arith) (sym (sound-from each) ∙ ap soundRecords (sym (p .0)) ∙ a .rising) c (each-left (λ r. AllBytes (r .payload)) each (last ∷ []) (b .1)) in
     let slots : cs ≡ w .slots = ap restored (p .0) ∙ w .placed in
     let again : connectionPieces 0 cs ≡ each = ap (connectionPieces 0) slots ∙ w .again in
     let count : little 2 (length each) ≡ first .payload = ap₂ little (sym s₁) (sym n) ∙ number-little (first .payload) (b .0) in

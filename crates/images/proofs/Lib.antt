@@ -1,4 +1,5 @@
 -- The laws of images, in the order to read them.
+pub mod RisingLaws
 pub mod PieceLaws
 pub mod FrameLaws
 pub mod ImageLaws

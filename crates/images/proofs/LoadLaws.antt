@@ -15,7 +15,7 @@ use Rattle.rules.specs.Refusals.{number}
 use Rattle.rules.specs.Answers.{Outcome, refused, refusing, loaded}
 use Rattle.rules.specs.Bytes.{same}
 use Rattle.rules.specs.Image.{Piece}
-use Rattle.rules.specs.Load.{piecesOf, countIn, recordsWrong, soundPieces, numbersUnsound, restored, treeIn, connectionsOf, loadChecks, loadDone, load}
+use Rattle.rules.specs.Load.{piecesOf, countIn, recordsWrong, soundRecords, numbersUnsound, restored, treeIn, connectionsOf, loadChecks, loadDone, load}
 use Rattle.rules.specs.Steps.{gives, refuses}
 use Rattle.rules.specs.LoadSteps.{frameStep, records, FramedAt}
 use Rattle.basics.proofs.BytesLaws.{AllBytes}
@@ -61,9 +61,9 @@ module _ (s : Schedule) (bytes : List ℕ) where
   load-refused-exactly n = refusing-exactly (loadChecks bytes) s (loadDone bytes) (λ m e. let z : _≡_ {A = ℕ} 0 1 = cc in omega arith) n
 
   module _ (n : ℕ) (f : FramedSays bytes n) where
-    sound-is : numbersUnsound (piecesOf bytes) ≡ not (soundPieces 0 (records bytes n))
+    sound-is : numbersUnsound (piecesOf bytes) ≡ not (soundRecords (records bytes n))
     unfolding numbersUnsound
-    sound-is = ap (λ (rs : List Piece). not (soundPieces 0 rs)) (f .connections)
+    sound-is = ap (λ (rs : List Piece). not (soundRecords rs)) (f .connections)
 
     connections-are : connectionsOf (piecesOf bytes) ≡ restored (records bytes n)
     unfolding connectionsOf
@@ -75,11 +75,11 @@ module _ (s : Schedule) (bytes : List ℕ) where
     tree-is : not (same (treeIn (piecesOf bytes)) (treeFor (connectionsOf (piecesOf bytes)))) ≡ not (same (take 128 (drop (10 + 18 * n) bytes)) (treeFor (restored (records bytes n))))
     tree-is = ap₂ (λ (t : List ℕ) (cs : List Connection). not (same t (treeFor cs))) (f .tree) connections-are
 
-    pub load-10 : soundPieces 0 (records bytes n) ≡ false → refusing s (number NumbersUnsound) ≡ load s bytes
+    pub load-10 : soundRecords (records bytes n) ≡ false → refusing s (number NumbersUnsound) ≡ load s bytes
     unfolding loadChecks
     load-10 e = refused-first (inr (f .passes, inl (sound-is ∙ ap not e, refl)))
 
-    module _ (p : soundPieces 0 (records bytes n) ≡ true) where
+    module _ (p : soundRecords (records bytes n) ≡ true) where
       pub load-11 : apart (restored (records bytes n)) ≡ false → refusing s (number BlockOwnedTwice) ≡ load s bytes
       unfolding loadChecks
       load-11 e = refused-first (inr (f .passes, inr (sound-is ∙ ap not p, inl (apart-is ∙ ap not e, refl))))

@@ -2,14 +2,15 @@
 use mathlib.Core.Path.{_≡_, refl, sym, ap, _∙_, subst}
 use mathlib.Core.Bool.{Bool, true, false, _&&_, false≢true}
 use mathlib.Core.Logic.{_≢_, by-cases}
-use mathlib.Core.List.{List, [], _∷_, _++_}
+use mathlib.Core.List.{List, [], _∷_, _++_, map}
 use Prim.Native.Nat.{ℕ, zero, suc, _+_, _%_, _^_, _<_, _≤_}
 use native.Mathlib.Decide.{ℕ-discrete}
 use native.Mathlib.Omega.{arith}
 use lib.Pow.{pow-pos}
 use lib.ListN.{length, set, replicate, length-set, length-replicate}
 use lib.Seq.{set-comm}
-use borrow.Author.Tests.{le-leb, lt-leb, lt-ltb, le-ltb, ltb-true}
+use lib.Dec.{ltb}
+use borrow.Author.Tests.{lt-ltb, ltb-true}
 use Rattle.rules.specs.declared.Connection.{Connection}
 use Rattle.rules.specs.Below.{tabulate}
 use Rattle.rules.specs.Time.{minusMod}
@@ -20,35 +21,17 @@ use Rattle.rules.specs.Sound.{soundNumbers, allSound, apart, sound}
 use Rattle.rules.specs.Good.{treeFor}
 use Rattle.rules.specs.Admit.{isOpen}
 use Rattle.rules.specs.Image.{Piece}
-use Rattle.rules.specs.Load.{handleIn, connectionIn, soundPieces, restored}
+use Rattle.rules.specs.Load.{handleIn, connectionIn, allNumbersSound, rising, soundRecords, restored}
 use Rattle.basics.proofs.BoolLaws.{both, is-false}
 use Rattle.basics.proofs.BelowLaws.{tabulate-last}
+use Rattle.blocks.proofs.ClassLaws.{within-depth}
 use Rattle.blocks.proofs.EndlessTime.{minusMod-only}
 use Rattle.rules.specs.Sound.{Numbers}
 use Rattle.blocks.proofs.SoundLaws.{numbers-sound, Sound, sound-exactly, all-sound-of}
 use Rattle.blocks.proofs.ScheduleLaws.{nobody-owns, at-same, at-other, others, others-at, sound-set, live-runs, dead-runs, longer-tree}
 use Rattle.calls.proofs.AdmitLaws.{RunFreeEver, open-ever, open-nobody}
-use Rattle.images.proofs.ImageLaws.{rising-exactly, at-free}
-use Rattle.blocks.proofs.ClassLaws.{within-depth}
-
--- ---- the test of the numbers, one record after the other
-module _ (h : ℕ) (r : Piece) (rs : List Piece) where
-  -- A record that passes leaves the others.
-  pub pieces-pass : handleIn r < handles → h ≤ handleIn r → soundNumbers (connectionIn r) ≡ true → soundPieces h (r ∷ rs) ≡ soundPieces (suc (handleIn r)) rs
-  unfolding soundPieces
-  pieces-pass l m n = rw (lt-ltb (handleIn r) handles l, le-leb h (handleIn r) m, n)
-
-  pub handle-above : handles ≤ handleIn r → soundPieces h (r ∷ rs) ≡ false
-  unfolding soundPieces
-  handle-above l = rw (le-ltb (handleIn r) handles l)
-
-  pub handle-falls : handleIn r < handles → handleIn r < h → soundPieces h (r ∷ rs) ≡ false
-  unfolding soundPieces
-  handle-falls l m = rw (lt-ltb (handleIn r) handles l, lt-leb h (handleIn r) m)
-
-  pub numbers-fail : handleIn r < handles → h ≤ handleIn r → soundNumbers (connectionIn r) ≡ false → soundPieces h (r ∷ rs) ≡ false
-  unfolding soundPieces
-  numbers-fail l m n = rw (lt-ltb (handleIn r) handles l, le-leb h (handleIn r) m, n)
+use Rattle.images.proofs.RisingLaws.{soundFrom, sound-from, rising-exactly}
+use Rattle.images.proofs.ImageLaws.{at-free}
 
 -- ---- what the records restore
 pub restored-length : (rs : List Piece) → length (restored rs) ≡ handles
@@ -57,37 +40,42 @@ restored-length [] = length-replicate handles nobody
 restored-length (r ∷ rs) = length-set (restored rs) (handleIn r) (connectionIn r) ∙ restored-length rs
 
 -- Every connection has sound numbers.
-pub restored-numbers : (g : ℕ) (rs : List Piece) → soundPieces g rs ≡ true → (h : ℕ) → at (restored rs) h .live ≡ true → Numbers (at (restored rs) h)
-unfolding restored
-restored-numbers g [] e h l = absurd (false≢true (sym (ap (λ (c : Connection). c .live) (at-free handles h)) ∙ l))
-restored-numbers g (r ∷ rs) e h l =
-    let p = rising-exactly g r rs .0 e in
+pub restored-numbers : (rs : List Piece) → allNumbersSound rs ≡ true → (h : ℕ) → at (restored rs) h .live ≡ true → Numbers (at (restored rs) h)
+unfolding restored allNumbersSound
+restored-numbers [] e h l = absurd (false≢true (sym (ap (λ (c : Connection). c .live) (at-free handles h)) ∙ l))
+restored-numbers (r ∷ rs) e h l =
+    let p = both (ltb (handleIn r) handles && soundNumbers (connectionIn r)) (allNumbersSound rs) e in
+    let s = both (ltb (handleIn r) handles) (soundNumbers (connectionIn r)) (p .0) in
     by-cases (ℕ-discrete h (handleIn r))
     (λ q.
     subst Numbers
-    (sym (ap (at (set (restored rs) (handleIn r) (connectionIn r))) q ∙ at-same (restored rs) (handleIn r) (connectionIn r) (omega (arith, p .below, restored-length rs))))
-    (numbers-sound (connectionIn r) .0 (p .numbers)))
+    (sym (ap (at (set (restored rs) (handleIn r) (connectionIn r))) q ∙ at-same (restored rs) (handleIn r) (connectionIn r) (omega (arith, ltb-true (handleIn r) handles (s .0), restored-length rs))))
+    (numbers-sound (connectionIn r) .0 (s .1)))
     (λ q.
     let other = at-other (restored rs) (handleIn r) (connectionIn r) h q in
-    subst Numbers (sym other) (restored-numbers (suc (handleIn r)) rs (p .later) h (ap (λ (c : Connection). c .live) (sym other) ∙ l)))
+    subst Numbers (sym other) (restored-numbers rs (p .1) h (ap (λ (c : Connection). c .live) (sym other) ∙ l)))
 
--- Sound is apart, where the numbers are sound.
-sound-apart : (g : ℕ) (rs : List Piece) → soundPieces g rs ≡ true → sound (restored rs) ≡ apart (restored rs)
+all-numbers : (rs : List Piece) → soundRecords rs ≡ true → allNumbersSound rs ≡ true
+unfolding soundRecords
+all-numbers rs e = both (allNumbersSound rs) (rising (map handleIn rs)) e .0
+
+-- Sound is apart, where the records are sound.
+sound-apart : (rs : List Piece) → soundRecords rs ≡ true → sound (restored rs) ≡ apart (restored rs)
 unfolding sound
-sound-apart g rs e = ap (λ (v : Bool). v && apart (restored rs)) (all-sound-of (restored rs) (restored-numbers g rs e))
+sound-apart rs e = ap (λ (v : Bool). v && apart (restored rs)) (all-sound-of (restored rs) (restored-numbers rs (all-numbers rs e)))
 
 -- ---- one record more, after the others
 -- The handles rise: it is placed where nobody is, whether first or last.
 record Added (g : ℕ) (xs : List Piece) (r : Piece) : Type 0 where
-  pub earlier : soundPieces g xs ≡ true
+  pub earlier : soundFrom g xs ≡ true
   pub above : g ≤ handleIn r
   pub below : handleIn r < handles
   pub numbers : soundNumbers (connectionIn r) ≡ true
   pub unused : at (restored xs) (handleIn r) ≡ nobody
   pub placed : restored (xs ++ (r ∷ [])) ≡ set (restored xs) (handleIn r) (connectionIn r)
 
-added : (g : ℕ) (xs : List Piece) (r : Piece) → soundPieces g (xs ++ (r ∷ [])) ≡ true → Added g xs r
-unfolding restored soundPieces
+added : (g : ℕ) (xs : List Piece) (r : Piece) → soundFrom g (xs ++ (r ∷ [])) ≡ true → Added g xs r
+unfolding restored soundFrom
 added g [] r e =
     let p = rising-exactly g r [] .0 e in
     record { earlier = refl; above = p .above; below = p .below; numbers = p .numbers; unused = at-free handles (handleIn r); placed = refl }
@@ -105,13 +93,13 @@ added g (x ∷ xs) r e =
           ∙ set-comm (restored xs) (handleIn r) (handleIn x) (connectionIn r) (connectionIn x) (λ z. omega (arith, q .above));
     }
 
-module _ (g : ℕ) (xs : List Piece) (r : Piece) (e : soundPieces g (xs ++ (r ∷ [])) ≡ true) where
-  one-more : Added g xs r
-  one-more = added g xs r e
+module _ (xs : List Piece) (r : Piece) (e : soundRecords (xs ++ (r ∷ [])) ≡ true) where
+  one-more : Added 0 xs r
+  one-more = added 0 xs r (sym (sound-from (xs ++ (r ∷ []))) ∙ e)
 
   -- The records before it are sound too.
-  pub sound-earlier : soundPieces g xs ≡ true
-  sound-earlier = one-more .earlier
+  pub sound-earlier : soundRecords xs ≡ true
+  sound-earlier = sound-from xs ∙ one-more .earlier
 
   pub handle-here : handleIn r < handles
   handle-here = one-more .below
@@ -152,12 +140,12 @@ module _ (g : ℕ) (xs : List Piece) (r : Piece) (e : soundPieces g (xs ++ (r �
   -- Where the whole is apart, the records before it are.
   apart-earlier : apart (restored (xs ++ (r ∷ []))) ≡ true → apart (restored xs) ≡ true
   apart-earlier a =
-      let s = sound-exactly (restored (xs ++ (r ∷ []))) .0 (sound-apart g (xs ++ (r ∷ [])) e ∙ a) in
+      let s = sound-exactly (restored (xs ++ (r ∷ []))) .0 (sound-apart (xs ++ (r ∷ [])) e ∙ a) in
       let earlier : Sound (restored xs) = record {
-        numbers = restored-numbers g xs sound-earlier;
+        numbers = restored-numbers xs (all-numbers xs sound-earlier);
         apart-ever = λ b i j x y. s .apart-ever b i j (owner-still i b x) (owner-still j b y);
       } in
-      sym (sound-apart g xs sound-earlier) ∙ sound-exactly (restored xs) .1 earlier
+      sym (sound-apart xs sound-earlier) ∙ sound-exactly (restored xs) .1 earlier
 
   -- Where they clash, the whole does.
   pub clash-earlier : apart (restored xs) ≡ false → apart (restored (xs ++ (r ∷ []))) ≡ false
@@ -165,7 +153,7 @@ module _ (g : ℕ) (xs : List Piece) (r : Piece) (e : soundPieces g (xs ++ (r �
 
   module _ (a : apart (restored xs) ≡ true) where
     sound-still : sound (restored xs) ≡ true
-    sound-still = sound-apart g xs sound-earlier ∙ a
+    sound-still = sound-apart xs sound-earlier ∙ a
 
     -- Its run is free: the whole is apart.
     pub run-apart : runFree (taken (restored xs)) (connectionIn r .k) (connectionIn r .anchor) (connectionIn r .length) ≡ true → apart (restored (xs ++ (r ∷ []))) ≡ true
@@ -177,7 +165,7 @@ module _ (g : ℕ) (xs : List Piece) (r : Piece) (e : soundPieces g (xs ++ (r �
         (λ b o. is-false (others (restored xs) (handleIn r) b) (λ t.
         let w = others-at (restored xs) (handleIn r) inside b t in
         false≢true (sym (open-nobody (restored xs) (c .k) (c .length) (c .anchor) b (w .0) ever (ltb-true _ _ (sym (live-runs c refl b) ∙ o))) ∙ w .2))) in
-        sym (sound-apart g (xs ++ (r ∷ [])) e) ∙ ap sound placed-here ∙ sound-exactly (set (restored xs) (handleIn r) c) .1 s
+        sym (sound-apart (xs ++ (r ∷ [])) e) ∙ ap sound placed-here ∙ sound-exactly (set (restored xs) (handleIn r) c) .1 s
 
     -- Its run is not free: the whole is not apart.
     pub run-clash : runFree (taken (restored xs)) (connectionIn r .k) (connectionIn r .anchor) (connectionIn r .length) ≡ false → apart (restored (xs ++ (r ∷ []))) ≡ false
@@ -185,7 +173,7 @@ module _ (g : ℕ) (xs : List Piece) (r : Piece) (e : soundPieces g (xs ++ (r �
     run-clash f =
         let c = connectionIn r in
         is-false (apart (restored (xs ++ (r ∷ [])))) (λ w.
-        let s = sound-exactly (restored (xs ++ (r ∷ []))) .0 (sound-apart g (xs ++ (r ∷ [])) e ∙ w) in
+        let s = sound-exactly (restored (xs ++ (r ∷ []))) .0 (sound-apart (xs ++ (r ∷ [])) e ∙ w) in
         let ever : RunFreeEver (restored xs) (c .k) (c .length) (c .anchor) =
         λ j l b h m.
         is-false (owns (at (restored xs) h) b) (λ o.
@@ -204,30 +192,30 @@ module _ (g : ℕ) (xs : List Piece) (r : Piece) (e : soundPieces g (xs ++ (r �
 -- ---- the first i of n records
 module _ (f : ℕ → Piece) where
   -- They are sound too.
-  pub sound-first : (n i : ℕ) → i ≤ n → soundPieces 0 (tabulate n f) ≡ true → soundPieces 0 (tabulate i f) ≡ true
-  sound-first zero i l e = let q : 0 ≡ i = omega arith in subst (λ (m : ℕ). soundPieces 0 (tabulate m f) ≡ true) q e
+  pub sound-first : (n i : ℕ) → i ≤ n → soundRecords (tabulate n f) ≡ true → soundRecords (tabulate i f) ≡ true
+  sound-first zero i l e = let q : 0 ≡ i = omega arith in subst (λ (m : ℕ). soundRecords (tabulate m f) ≡ true) q e
   sound-first (suc n) i l e =
       by-cases (ℕ-discrete i (suc n))
-      (λ q. subst (λ (m : ℕ). soundPieces 0 (tabulate m f) ≡ true) (sym q) e)
-      (λ q. sound-first n i (omega arith) (sound-earlier 0 (tabulate n f) (f n) (ap (soundPieces 0) (sym (tabulate-last n f)) ∙ e)))
+      (λ q. subst (λ (m : ℕ). soundRecords (tabulate m f) ≡ true) (sym q) e)
+      (λ q. sound-first n i (omega arith) (sound-earlier (tabulate n f) (f n) (ap soundRecords (sym (tabulate-last n f)) ∙ e)))
 
   -- Where they clash, the whole does.
-  pub clash-first : (n i : ℕ) → i ≤ n → soundPieces 0 (tabulate n f) ≡ true → apart (restored (tabulate i f)) ≡ false → apart (restored (tabulate n f)) ≡ false
+  pub clash-first : (n i : ℕ) → i ≤ n → soundRecords (tabulate n f) ≡ true → apart (restored (tabulate i f)) ≡ false → apart (restored (tabulate n f)) ≡ false
   clash-first zero i l e a = let q : i ≡ 0 = omega arith in subst (λ (m : ℕ). apart (restored (tabulate m f)) ≡ false) q a
   clash-first (suc n) i l e a =
       by-cases (ℕ-discrete i (suc n))
       (λ q. subst (λ (m : ℕ). apart (restored (tabulate m f)) ≡ false) q a)
       (λ q.
-      let s = ap (soundPieces 0) (sym (tabulate-last n f)) ∙ e in
+      let s = ap soundRecords (sym (tabulate-last n f)) ∙ e in
       ap (λ (rs : List Piece). apart (restored rs)) (tabulate-last n f)
-      ∙ clash-earlier 0 (tabulate n f) (f n) s (clash-first n i (omega arith) (sound-earlier 0 (tabulate n f) (f n) s) a))
+      ∙ clash-earlier (tabulate n f) (f n) s (clash-first n i (omega arith) (sound-earlier (tabulate n f) (f n) s) a))
 
 -- ---- no record
 pub apart-none : apart (restored []) ≡ true
-unfolding sound restored soundPieces
+unfolding sound restored allNumbersSound
 apart-none =
     let s : Sound (replicate handles nobody) = record {
-      numbers = restored-numbers 0 [] refl;
+      numbers = restored-numbers [] refl;
       apart-ever = λ b i j x y. absurd (false≢true (sym (ap (λ (c : Connection). owns c b) (at-free handles i) ∙ nobody-owns b) ∙ x));
     } in
     both (allSound (replicate handles nobody)) (apart (replicate handles nobody)) (sound-exactly (replicate handles nobody) .1 s) .1

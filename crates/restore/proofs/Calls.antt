@@ -8,7 +8,7 @@ use Rattle.rules.specs.declared.Restored.{Restored}
 use Rattle.rules.specs.Below.{tabulate}
 use Rattle.rules.specs.Sound.{apart}
 use Rattle.rules.specs.Good.{scheduleOf}
-use Rattle.rules.specs.Load.{soundPieces, restored}
+use Rattle.rules.specs.Load.{soundRecords, restored}
 use Rattle.rules.specs.LoadSteps.{pieceAt, records}
 use Rattle.basics.proofs.BelowLaws.{largest-unique}
 use Rattle.images.proofs.RestoreLaws.{sound-first, clash-first, apart-none}
@@ -24,7 +24,7 @@ module _ (bytes : List ℕ) (n : ℕ) where
   most-all a = most-is n (omega arith) a (λ j l m. absurd (omega arith))
 
   -- or the one after the first i clashes with one of them, and then more clash too.
-  pub most-clash : (i : ℕ) → i < n → soundPieces 0 (records bytes n) ≡ true → apart (restored (records bytes i)) ≡ true → apart (restored (records bytes (suc i))) ≡ false → mostApart bytes n ≡ i
+  pub most-clash : (i : ℕ) → i < n → soundRecords (records bytes n) ≡ true → apart (restored (records bytes i)) ≡ true → apart (restored (records bytes (suc i))) ≡ false → mostApart bytes n ≡ i
   most-clash i l e a c =
       most-is i (omega arith) a (λ j h m. clash-first (pieceAt bytes) j (suc i) (omega arith) (sound-first (pieceAt bytes) n j m e) c)
 

@@ -11,14 +11,14 @@ use Rattle.rules.specs.declared.Connection.{Connection}
 use Rattle.rules.specs.Sound.{soundNumbers}
 use Rattle.rules.specs.Bytes.{littleNumber}
 use Rattle.rules.specs.Image.{Piece}
-use Rattle.rules.specs.Load.{handleIn, connectionIn, soundPieces}
+use Rattle.rules.specs.Load.{handleIn, connectionIn, soundRecords}
 use Rattle.rules.specs.LoadSteps.{pieceAt, records, FramedAt}
 use Rattle.basics.proofs.BoolLaws.{is-false}
 use Rattle.basics.proofs.BelowLaws.{length-tabulate, getD-tabulate}
 use Rattle.basics.proofs.BytesLaws.{AllBytes, bytes-take, bytes-drop, number-lt}
 use Rattle.rules.specs.Sound.{Numbers}
 use Rattle.blocks.proofs.SoundLaws.{numbers-sound}
-use Rattle.images.proofs.RestoreLaws.{pieces-pass, handle-above, handle-falls, numbers-fail}
+use Rattle.images.proofs.RisingLaws.{soundFrom, sound-from, pieces-pass, handle-above, handle-falls, numbers-fail}
 use Rattle.restore.specs.Promises.{recordAt, Reads}
 
 -- ---- a number of a record
@@ -82,28 +82,28 @@ records-end bytes n i l =
 
 -- ---- check 10 up to record i: what it says is what the records from i on say
 abbrev pub Tested : List ℕ → ℕ → ℕ → ℕ → Type 0
-Tested bytes n i least = soundPieces 0 (records bytes n) ≡ soundPieces least (recordsFrom bytes n i)
+Tested bytes n i least = soundRecords (records bytes n) ≡ soundFrom least (recordsFrom bytes n i)
 
 pub tested-none : (bytes : List ℕ) (n : ℕ) → Tested bytes n 0 0
-tested-none bytes n = refl
+tested-none bytes n = sound-from (records bytes n)
 
 module _ (bytes : List ℕ) (n i least h : ℕ) (l : i < n) (t : Tested bytes n i least) (e : h ≡ handleIn (pieceAt bytes i)) where
-  begun : soundPieces 0 (records bytes n) ≡ soundPieces least (pieceAt bytes i ∷ recordsFrom bytes n (suc i))
-  begun = t ∙ ap (soundPieces least) (records-more bytes n i l)
+  begun : soundRecords (records bytes n) ≡ soundFrom least (pieceAt bytes i ∷ recordsFrom bytes n (suc i))
+  begun = t ∙ ap (soundFrom least) (records-more bytes n i l)
 
-  pub tested-above : 63 < h → soundPieces 0 (records bytes n) ≡ false
+  pub tested-above : 63 < h → soundRecords (records bytes n) ≡ false
   tested-above m = begun ∙ handle-above least (pieceAt bytes i) (recordsFrom bytes n (suc i)) (omega arith)
 
-  pub tested-falls : h ≤ 63 → h < least → soundPieces 0 (records bytes n) ≡ false
-  tested-falls m q = begun ∙ handle-falls least (pieceAt bytes i) (recordsFrom bytes n (suc i)) (omega arith) (omega arith)
+  pub tested-falls : h < least → soundRecords (records bytes n) ≡ false
+  tested-falls q = begun ∙ handle-falls least (pieceAt bytes i) (recordsFrom bytes n (suc i)) (omega arith)
 
-  pub tested-fails : h ≤ 63 → least ≤ h → soundNumbers (connectionIn (pieceAt bytes i)) ≡ false → soundPieces 0 (records bytes n) ≡ false
-  tested-fails m q s = begun ∙ numbers-fail least (pieceAt bytes i) (recordsFrom bytes n (suc i)) (omega arith) (omega arith) s
+  pub tested-fails : soundNumbers (connectionIn (pieceAt bytes i)) ≡ false → soundRecords (records bytes n) ≡ false
+  tested-fails s = begun ∙ numbers-fail least (pieceAt bytes i) (recordsFrom bytes n (suc i)) s
 
   pub tested-more : h ≤ 63 → least ≤ h → soundNumbers (connectionIn (pieceAt bytes i)) ≡ true → Tested bytes n (i + 1) (h + 1)
   tested-more m q s =
       rw (add-one i, add-one h, e) (begun ∙ pieces-pass least (pieceAt bytes i) (recordsFrom bytes n (suc i)) (omega arith) (omega arith) s)
 
-pub tested-all : (bytes : List ℕ) (n i least : ℕ) → n ≤ i → Tested bytes n i least → soundPieces 0 (records bytes n) ≡ true
-unfolding soundPieces
-tested-all bytes n i least l t = t ∙ ap (soundPieces least) (records-end bytes n i l)
+pub tested-all : (bytes : List ℕ) (n i least : ℕ) → n ≤ i → Tested bytes n i least → soundRecords (records bytes n) ≡ true
+unfolding soundFrom
+tested-all bytes n i least l t = t ∙ ap (soundFrom least) (records-end bytes n i l)

@@ -15,7 +15,7 @@ use Rattle.rules.specs.TreeBytes.{treeOf}
 use Rattle.rules.specs.Sound.{apart}
 use Rattle.rules.specs.Good.{treeFor, scheduleOf}
 use Rattle.rules.specs.Image.{Piece}
-use Rattle.rules.specs.Load.{handleIn, connectionIn, soundPieces, restored}
+use Rattle.rules.specs.Load.{handleIn, connectionIn, soundRecords, restored}
 use Rattle.rules.specs.LoadSteps.{pieceAt, records}
 use Rattle.basics.proofs.BelowLaws.{tabulate-last}
 use Rattle.rules.specs.Sound.{Numbers}
@@ -40,15 +40,15 @@ taken-none bytes c tree e t = record { placed = ap (replicate 64) e; marked = t 
 pub taken-tree : (bytes : List ℕ) (i : ℕ) (cs : List Connection) (tree : List ℕ) → Taken bytes i cs tree → IsTree tree
 taken-tree bytes i cs tree w = (taken (restored (records bytes i)), w .marked)
 
-module _ (bytes : List ℕ) (n i : ℕ) (l : i < n) (e : soundPieces 0 (records bytes n) ≡ true) (c : Connection) (ec : c ≡ connectionIn (pieceAt bytes i)) where
-  rises : soundPieces 0 (records bytes i ++ (pieceAt bytes i ∷ [])) ≡ true
-  rises = ap (soundPieces 0) (sym (tabulate-last i (pieceAt bytes))) ∙ sound-first (pieceAt bytes) n (suc i) (omega arith) e
+module _ (bytes : List ℕ) (n i : ℕ) (l : i < n) (e : soundRecords (records bytes n) ≡ true) (c : Connection) (ec : c ≡ connectionIn (pieceAt bytes i)) where
+  rises : soundRecords (records bytes i ++ (pieceAt bytes i ∷ [])) ≡ true
+  rises = ap soundRecords (sym (tabulate-last i (pieceAt bytes))) ∙ sound-first (pieceAt bytes) n (suc i) (omega arith) e
 
   pub turn-numbers : Numbers c
-  turn-numbers = subst Numbers (sym ec) (numbers-here 0 (records bytes i) (pieceAt bytes i) rises)
+  turn-numbers = subst Numbers (sym ec) (numbers-here (records bytes i) (pieceAt bytes i) rises)
 
   pub turn-handle : handleIn (pieceAt bytes i) < 64
-  turn-handle = handle-here 0 (records bytes i) (pieceAt bytes i) rises
+  turn-handle = handle-here (records bytes i) (pieceAt bytes i) rises
 
   module _ (cs : List Connection) (tree : List ℕ) (w : Taken bytes i cs tree) where
     said : (says : Bool) → RunFreeSays (c .k) (c .anchor) (c .length) tree says
@@ -61,7 +61,7 @@ module _ (bytes : List ℕ) (n i : ℕ) (l : i < n) (e : soundPieces 0 (records 
     pub turn-clash : RunFreeSays (c .k) (c .anchor) (c .length) tree false → apart (restored (records bytes (suc i))) ≡ false
     turn-clash f =
         ap (λ (rs : List Piece). apart (restored rs)) (tabulate-last i (pieceAt bytes))
-        ∙ run-clash 0 (records bytes i) (pieceAt bytes i) rises (w .separate) (said false f)
+        ∙ run-clash (records bytes i) (pieceAt bytes i) rises (w .separate) (said false f)
 
     -- It is free, and is taken.
     pub turn-takes : (after : List ℕ) (h : ℕ) → h ≡ handleIn (pieceAt bytes i) → RunFreeSays (c .k) (c .anchor) (c .length) tree true
@@ -72,15 +72,15 @@ module _ (bytes : List ℕ) (n i : ℕ) (l : i < n) (e : soundPieces 0 (records 
         let more : rs ++ (pieceAt bytes i ∷ []) ≡ records bytes (suc i) = sym (tabulate-last i (pieceAt bytes)) in
         rw (add-one i)
         (record {
-          placed = rw (w .placed, eh, ec) (sym (placed-here 0 rs (pieceAt bytes i) rises) ∙ ap restored more);
+          placed = rw (w .placed, eh, ec) (sym (placed-here rs (pieceAt bytes i) rises) ∙ ap restored more);
           marked =
               s (taken (restored rs)) (w .marked)
               ∙ ap (λ (x : Connection). treeOf (setRun (x .k) (x .anchor) 0 (x .length) true (taken (restored rs)))) ec
-              ∙ run-tree 0 rs (pieceAt bytes i) rises
+              ∙ run-tree rs (pieceAt bytes i) rises
               ∙ ap (λ (rs : List Piece). treeOf (taken (restored rs))) more;
           separate =
               ap (λ (rs : List Piece). apart (restored rs)) (sym more)
-              ∙ run-apart 0 rs (pieceAt bytes i) rises (w .separate) (said true f);
+              ∙ run-apart rs (pieceAt bytes i) rises (w .separate) (said true f);
         })
 
 -- ---- the answers
@@ -100,6 +100,6 @@ module _ (bytes : List ℕ) (n i : ℕ) (cs : List Connection) (tree : List ℕ)
       let all : apart (restored (records bytes n)) ≡ true = rw q at (w .separate) in
       restores (a ∙ sym all) (most-all bytes n all ∙ sym q)
 
-  pub restores-not : i < n → soundPieces 0 (records bytes n) ≡ true → r .apart ≡ false → apart (restored (records bytes (suc i))) ≡ false → Restores bytes n r
+  pub restores-not : i < n → soundRecords (records bytes n) ≡ true → r .apart ≡ false → apart (restored (records bytes (suc i))) ≡ false → Restores bytes n r
   restores-not l e a c =
       restores (a ∙ sym (clash-first (pieceAt bytes) n (suc i) (omega arith) e c)) (most-clash bytes n i l e (w .separate) c)

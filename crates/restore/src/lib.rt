@@ -6,7 +6,7 @@ ghost use lib.ListN.{length, take, drop};
 ghost use Rattle.rules.specs.Classes.{depth};
 ghost use Rattle.rules.specs.Sound.{soundNumbers};
 ghost use Rattle.rules.specs.Bytes.{littleNumber};
-ghost use Rattle.rules.specs.Load.{handleIn, connectionIn, soundPieces};
+ghost use Rattle.rules.specs.Load.{handleIn, connectionIn, soundRecords};
 ghost use Rattle.rules.specs.LoadSteps.{records, FramedAt};
 ghost use Rattle.tree.specs.Promises.{IsTree};
 ghost use Rattle.restore.specs.Promises.{recordAt, Reads, RunFreeSays, Restores};
@@ -91,7 +91,7 @@ fn numbers_sound(c: Connection) -> bool
 /// Check 10: each record's numbers are sound, and the handles rise.
 pub fn records_sound(bytes: &[u8], n: usize) -> bool
     requires { ⌜ FramedAt (now bytes) n ⌝ }
-    ensures { λ r. ⌜ r ≡ soundPieces 0 (records (now (bytes .entry)) n) ⌝ }
+    ensures { λ r. ⌜ r ≡ soundRecords (records (now (bytes .entry)) n) ⌝ }
 {
     let mut cursor = next(bytes, 0);
     let mut least: u8 = 0;
@@ -127,7 +127,7 @@ fn run_free(tree: &[u8; 128], k: u32, anchor: u32, length: u32) -> bool
 
 /// Check 11: the connections of the records with their tree, taken one after the other on an empty tree; or two of them own one block.
 pub fn restore(bytes: &[u8], n: usize) -> Restored
-    requires { ⌜ FramedAt (now bytes) n × (soundPieces 0 (records (now bytes) n) ≡ true) ⌝ }
+    requires { ⌜ FramedAt (now bytes) n × (soundRecords (records (now bytes) n) ≡ true) ⌝ }
     ensures { λ r. ⌜ Restores (now (bytes .entry)) n r ⌝ }
 {
     let connections = [nobody(); 64];

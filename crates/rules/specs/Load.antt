@@ -75,20 +75,27 @@ connectionIn r =
       estimate = fieldIn r 10 4;
     }
 
--- The numbers are sound, and each handle is at least h and above the one before it.
-unfoldable pub soundPieces : ℕ → List Piece → Bool
+-- "Check 10 asks for handle ≤ 63, k ≤ 9, A < F and the bounds of a sound schedule": of each record.
+unfoldable pub allNumbersSound : List Piece → Bool
 unfolding handleIn connectionIn soundNumbers
-soundPieces h [] = true
-soundPieces h (r ∷ rs) =
-    ltb (handleIn r) handles
-    && leb h (handleIn r)
-    && soundNumbers (connectionIn r)
-    && soundPieces (suc (handleIn r)) rs
+allNumbersSound [] = true
+allNumbersSound (r ∷ rs) = ltb (handleIn r) handles && soundNumbers (connectionIn r) && allNumbersSound rs
+
+-- Each number is below the next.
+unfoldable pub rising : List ℕ → Bool
+rising [] = true
+rising (n ∷ []) = true
+rising (n ∷ (m ∷ ns)) = ltb n m && rising (m ∷ ns)
+
+-- Every record's numbers are sound, and the handles strictly rise.
+unfoldable pub soundRecords : List Piece → Bool
+unfolding allNumbersSound rising handleIn
+soundRecords rs = allNumbersSound rs && rising (map handleIn rs)
 
 -- 10: "a connection's numbers not sound, or handles not strictly rising"
 unfoldable pub numbersUnsound : List Piece → Bool
-unfolding connectionsIn soundPieces
-numbersUnsound rs = not (soundPieces 0 (connectionsIn rs))
+unfolding connectionsIn soundRecords
+numbersUnsound rs = not (soundRecords (connectionsIn rs))
 
 -- The connections of the records, each at its handle.
 unfoldable pub restored : List Piece → List Connection

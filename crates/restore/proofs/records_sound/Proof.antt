@@ -55,7 +55,7 @@ returns-2 c =
     let h = c .before .before in
     let l = h .before .before .loop in
     let a = h .before .before .before .before .before .args in
-    sym (tested-falls (a .bytes .now) (a .n) (l .i) (l .least) (h .handle-at .result) (h .before .loop-test .taken) (l .inv .2) (handle-read h) (c .before .if1 .left) (c .if2 .taken))
+    sym (tested-falls (a .bytes .now) (a .n) (l .i) (l .least) (h .handle-at .result) (h .before .loop-test .taken) (l .inv .2) (handle-read h) (c .if2 .taken))
 
 connection-at-requires : tie.Need-connection-at-requires Inv-loop μ-loop
 connection-at-requires c κs = room (c .before .before .before)
@@ -77,7 +77,7 @@ returns-3 c =
     let h = e .before .before in
     let l = h .before .before .loop in
     let a = h .before .before .before .before .before .args in
-    sym (tested-fails (a .bytes .now) (a .n) (l .i) (l .least) (h .handle-at .result) (h .before .loop-test .taken) (l .inv .2) (handle-read h) (e .before .if1 .left) (e .if2 .left)
+    sym (tested-fails (a .bytes .now) (a .n) (l .i) (l .least) (h .handle-at .result) (h .before .loop-test .taken) (l .inv .2) (handle-read h)
     (numbers-said (c .before) ∙ not-true (c .before .numbers-sound .result) (c .if3 .taken)))
 
 add-least : tie.Need-add-least Inv-loop μ-loop
