@@ -7,9 +7,8 @@ use native.Mathlib.Omega.{arith}
 use lib.Dec.{lit≤}
 use borrow.Author.Tests.{ltb-false, not-false}
 use Rattle.rules.specs.declared.Schedule.{Schedule}
-use Rattle.rules.specs.Time.{blockMicros}
-use Rattle.rules.specs.Core.{isInterval, intervalMicros}
-use Rattle.rules.specs.Ownership.{largestK, belongs, owns}
+use Rattle.rules.specs.Core.{isInterval}
+use Rattle.rules.specs.Ownership.{belongs, owns}
 use Rattle.rules.specs.Good.{Good, treeFor}
 use Rattle.rules.specs.Handles.{connection}
 use Rattle.rules.specs.Answers.{Answer, ok}
@@ -19,27 +18,30 @@ use Rattle.rules.specs.Save.{Written}
 use Rattle.blocks.proofs.EndlessTime.{belongs-reserved}
 use Rattle.rules.specs.Sound.{Numbers}
 use Rattle.blocks.proofs.ScheduleLaws.{good-sound}
-use Rattle.calls.proofs.AdmitLaws.{admit-cases, k-largest}
+use Rattle.calls.proofs.AdmitLaws.{admit-cases, k-small, k-largest}
 use Rattle.calls.proofs.RoomLaws.{no-room-exactly, room-exactly}
 use Rattle.images.proofs.SaveLaws.{save-whole}
 use Rattle.images.proofs.ImageLaws.{load-exactly, load-saves}
 use Rattle.history.specs.Calls.{Admit, Save, Load, Lent, Result, ruledCall, ruled}
 use Rattle.history.specs.Runs.{Run, now, By}
-use Rattle.history.specs.Demands.{IntervalsMeant, EventsMeant, ResultsGiven, ConnectionsGiven, TreeGiven, Reaches, RoomAsked, RoomExact, RestoreExact, SavesImage, SavesSame, Demand2}
+use Rattle.history.specs.Demands.{Meant, IntervalsMeant, EventsMeant, ResultsGiven, ConnectionsGiven, TreeGiven, Reaches, RoomAsked, RoomExact, RestoreExact, SavesImage, SavesSame, Demand2}
 use Rattle.history.proofs.Following.{now-after, result-after, result-is, now-good}
 
 -- ---- intervals
-interval-meant : (s : Schedule) (x i f c F A L : ℕ) → admit s x i f c .answer ≡ ok F A L
-    → (isInterval i ≡ true) × (F * blockMicros ≤ intervalMicros i) × ((k : ℕ) → k ≤ largestK → 2 ^ k * blockMicros ≤ intervalMicros i → 2 ^ k ≤ F)
+interval-meant : (s : Schedule) (x i f c F A L : ℕ) → admit s x i f c .answer ≡ ok F A L → Meant i F
 unfolding admitDone
 interval-meant s x i f c F A L =
-    admit-cases s x i f c
-    (λ o. o .answer ≡ ok F A L → (isInterval i ≡ true) × (F * blockMicros ≤ intervalMicros i) × ((k : ℕ) → k ≤ largestK → 2 ^ k * blockMicros ≤ intervalMicros i → 2 ^ k ≤ F))
+    admit-cases s x i f c (λ o. o .answer ≡ ok F A L → Meant i F)
     (λ n e. let z : _≡_ {A = ℕ} 0 1 = cc in absurd (omega arith))
     (λ a e.
     let p : 2 ^ kOf i ≡ F = cc in
     let l = k-largest i (a .interval) in
-    (a .interval, omega (arith, p, l .0), λ k d h. subst (λ (y : ℕ). 2 ^ k ≤ y) p (pow-le-pow-right (lit≤ tt) (l .1 k d (omega arith)))))
+    record {
+      allowed = a .interval;
+      power = (kOf i, k-small i, sym p);
+      held = omega (arith, p, l .0);
+      longest = λ k d h. subst (λ (y : ℕ). 2 ^ k ≤ y) p (pow-le-pow-right (lit≤ tt) (l .1 k d (omega arith)));
+    })
 
 intervals : IntervalsMeant (By ruled)
 unfolding ruledCall
@@ -74,16 +76,16 @@ tree run by = now-good run by .hasTree
 -- Of an admission that reaches the room check.
 room-asked : (s : Schedule) → Good s → (x i f c : ℕ) → Reaches s x i f c → RoomAsked s (admit s x i f c .answer) (2 ^ kOf i) f
 room-asked s good x i f c reach =
-    let handle = ltb-false 63 x (reach .check1) in
-    let interval = not-false (isInterval i) (reach .check4) in
+    let handle = ltb-false 63 x (reach .handle) in
+    let interval = not-false (isInterval i) (reach .interval) in
     let none = no-room-exactly s good x i f c in
-    let some = room-exactly s good x i f c handle (reach .check2) interval (reach .check5) in
+    let some = room-exactly s good x i f c handle (reach .unused) interval (reach .share) in
     record {
       shut = (
         λ a A l free. none .0 a .shut A l (λ j lj b y m. free j lj b m y),
         λ shut.
             none .1
-            (record { handle = handle; unused = reach .check2; interval = interval; share = reach .check5; shut = λ A l free. shut A l (λ j lj b m y. free j lj b y m) }),
+            (record { handle = handle; unused = reach .unused; interval = interval; share = reach .share; shut = λ A l free. shut A l (λ j lj b m y. free j lj b y m) }),
       );
       opens = (
         λ placed. let w = some .0 placed in (w .0, w .1, λ j lj b m y. w .2 j lj b y m),

@@ -1,8 +1,9 @@
 -- The command program prints, line by line, what the rule sheet's step answers after the commands said before.
 use mathlib.Core.Path.{_≡_, refl, sym, ap, ap₂, _∙_}
 use mathlib.Core.List.{List, [], _∷_, _++_, append-assoc}
-use Prim.Native.Nat.{ℕ, _≤_}
-use lib.ListN.{length}
+use Prim.Native.Nat.{ℕ}
+use lib.ListN.{take}
+use lib.Seq.{take-at}
 use Rattle.rules.specs.declared.Schedule.{Schedule}
 use Rattle.rules.specs.declared.Command.{Command}
 use Rattle.rules.specs.declared.Command.the-variants.{Admit, Drop, Report, Owner, Anchor}
@@ -14,12 +15,14 @@ use Rattle.rules.specs.Text.{byte, text}
 use Rattle.rules.specs.Split.{Parts, split}
 use Rattle.rules.specs.Words.{wordsOf}
 use Rattle.rules.specs.Commands.{says}
-use Rattle.rules.specs.Program.{Printed, mostInput, obey, heed, printed, tailPrinted, answered, program}
+use Rattle.rules.specs.Program.{Printed, obey, heed, printed, tailPrinted, answered, program}
 use Rattle.texts.proofs.SplitLaws.{split-piece}
 use Rattle.command.proofs.ProgramLaws.{heed-without, program-answered}
+use Rattle.command.specs.declared.Output.{Output}
+use Rattle.command.specs.Promises.{Runs}
 use Rattle.history.specs.Calls.{Result, beside, ruledCall, ruled}
 use Rattle.history.specs.Runs.{Fresh, startOf, History, begin, next, after}
-use Rattle.history.specs.Said.{requestOf, heard, heardAll, told, toldAll, tailTold}
+use Rattle.history.specs.Said.{requestOf, heard, heardAll, told, toldAll, tailTold, ProgramTold}
 
 -- A command's call is the one that the program makes for it.
 obey-ruled : (s : Schedule) (c : Command) → ruled s (requestOf c) ≡ beside (record { buffer = [] }) (obey s c)
@@ -52,14 +55,17 @@ printed-told h (line ∷ lines) tail =
       printed-told (heard h (says line)) lines tail,
     )
 
--- "One line, ended by LF, is printed per input line": of an input of at most 4,096 bytes, each line that says a command prints the words of
--- the step's answer after the commands said before it; other lines, and a tail, print `bad` and are in no history.
-pub program-told : (input : List ℕ) → length input ≤ mostInput
-    → split (byte "\n") (program input)
-    ≡ record { pieces = toldAll (begin Fresh) (split (byte "\n") input .pieces) ++ tailTold (split (byte "\n") input .tail); tail = [] }
+-- What is printed is the whole of the program's output.
+output-is : (input : List ℕ) (r : Output) → Runs input r → take (r .count) (r .bytes) ≡ program input
+output-is input r p = rw (p .bytes) (take-at (program input) _ (r .count) (sym (p .count)))
+
+-- "One line, ended by LF, is printed per input line": each line that says a command prints the words of the step's answer after the commands
+-- said before it; other lines, and a tail, print `bad` and are in no history.
+pub program-told : ProgramTold
 unfolding answered after startOf
-program-told input l =
-    ap (split (byte "\n")) (program-answered input l) ∙ printed-told (begin Fresh) (split (byte "\n") input .pieces) (split (byte "\n") input .tail)
+program-told input r p l =
+    ap (split (byte "\n")) (output-is input r p ∙ program-answered input l)
+    ∙ printed-told (begin Fresh) (split (byte "\n") input .pieces) (split (byte "\n") input .tail)
 
 -- So each line, wherever it stands, is told after those before it.
 pub told-each : (h : History) (before : List (List ℕ)) (line : List ℕ) (later : List (List ℕ))

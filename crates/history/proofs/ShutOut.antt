@@ -6,9 +6,11 @@ use mathlib.Core.List.{List, [], _∷_}
 use native.Mathlib.Omega.{arith}
 use lib.ListN.{getD, replicate}
 use Rattle.rules.specs.declared.Connection.{Connection}
+use Rattle.rules.specs.declared.Refusal.the-variants.{HandleAbove63}
 use Rattle.rules.specs.Core.{isInterval}
 use Rattle.rules.specs.Ownership.{handles, owns}
 use Rattle.rules.specs.Good.{fresh}
+use Rattle.rules.specs.Refusals.{number}
 use Rattle.rules.specs.Answers.{Answer, ok}
 use Rattle.rules.specs.Handles.{connection}
 use Rattle.rules.specs.Admit.{kOf}
@@ -74,7 +76,7 @@ refuses-all-room step refuses room =
     let run = begun Fresh (startOf Fresh) in
     let no = refuses (startOf Fresh) (single 0) in
     let yes =
-    room run (leaves step run (single 0)) 0 48 1 1 (refl, refl) refl (record { check1 = refl; check2 = refl; check4 = refl; check5 = refl }) .opens .1
+    room run (leaves step run (single 0)) 0 48 1 1 (refl, refl) refl (record { handle = refl; unused = refl; interval = refl; share = refl }) .opens .1
     (0, omega arith, λ j h b e x. ap (λ c. owns c b) (at-free handles x) ∙ nobody-owns b) in
     let e = no .1 in
     let f = yes .3 in
@@ -99,7 +101,7 @@ refuses-all step refuses d = refuses-all-room step refuses (d .room)
 
 -- Also where each refusal is 1.
 pub refuses-with-one : RoomExact (By refusesWithOne) → ⊥
-refuses-with-one = refuses-all-room refusesWithOne (λ s r. (1, refl))
+refuses-with-one = refuses-all-room refusesWithOne (λ s r. (number HandleAbove63, refl))
 
 -- ---- one that gives every connection anchor 0
 -- The second of two admissions is given anchor 0, where 4 is due.

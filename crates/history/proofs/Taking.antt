@@ -46,7 +46,8 @@ use Rattle.history.proofs.Following.{coded-ruled, now-good}
 
 -- ---- a step function
 pub takes-by : (step : StepFunction) → Takes (By step)
-takes-by step = record { begins = λ start. (startOf start, refl); goesOn = λ run by r. (step (now run) r, (by, refl)) }
+takes-by step =
+    record { begins = λ start. (startOf start, refl); goesOn = λ run by r. (step (now run) r, (by, refl)); earlier = λ run m by. by .0 }
 
 -- ---- the code
 -- Some value of an answer's type stands for what is decided: for each named refusal, and for what is done.
@@ -127,4 +128,5 @@ takes-coded =
       goesOn = λ run c r.
           let w = meets-some (now run) (now-good run (coded-ruled run c)) (r .call) (r .lent) in
           (w .0, (c, w .1));
+      earlier = λ run m c. c .0;
     }

@@ -4,7 +4,7 @@ use Rattle.rules.specs.Owner.{ownerOf}
 use Rattle.rules.specs.Anchor.{anchor}
 use Rattle.schedule.proofs.Calls.{admit-unique, drop-unique, report-unique, owner-unique, anchor-unique}
 use Rattle.image.proofs.Calls.{save-unique, load-unique}
-use Rattle.command.proofs.Calls.{run-unique}
+use Rattle.command.proofs.Calls.{run-unique, obey-unique}
 use Rattle.history.specs.OneOutcome.{OneOutcome}
 
 pub one-outcome : OneOutcome
@@ -19,4 +19,5 @@ one-outcome =
       save = save-unique;
       load = load-unique;
       run = λ input. run-unique;
+      obey = obey-unique;
     }

@@ -10,8 +10,7 @@ use Rattle.rules.specs.declared.Schedule.{Schedule}
 use Rattle.rules.specs.declared.Connection.{Connection}
 use Rattle.rules.specs.declared.Refusal.{Refusal as Named}
 use Rattle.rules.specs.declared.Refusal.the-variants.{NoOpenAnchor}
-use Rattle.rules.specs.Time.{blockMicros}
-use Rattle.rules.specs.Core.{isInterval, intervalMicros, Reserved}
+use Rattle.rules.specs.Core.{isInterval, baseInterval, Reserved}
 use Rattle.rules.specs.Ownership.{handles, largestK, factor, subrating, owns}
 use Rattle.rules.specs.Sound.{sound}
 use Rattle.rules.specs.Good.{treeFor}
@@ -29,10 +28,12 @@ abbrev pub has : Schedule → ℕ → ℕ → Bool
 has s x b = owns (connection s x) b
 
 -- ---- demand 1
--- "Every call takes all numbers and all bytes, and ends": there is a start, and whatever was made before, each request has a result.
+-- "Every call takes all numbers and all bytes, and ends": there is a start; whatever was made before, each request has a result; and what was
+-- made before is itself a run. (That a call of the code returns is what the check proves of each function.)
 pub record Takes (S : System) : Type 0 where
   pub begins : (start : Start) → (s : Schedule) × S (begun start s)
   pub goesOn : (run : Run) → S run → (r : Request) → (t : Result) × S (more run (record { request = r; result = t }))
+  pub earlier : (run : Run) (m : Made) → S (more run m) → S run
 
 -- "A call that cannot be met returns one number from the rule sheet's table, and neither the schedule nor a lent buffer has changed."
 pub record Refusal (run : Run) (m : Made) (n : ℕ) : Type 0 where
@@ -45,13 +46,18 @@ pub record Demand1 (S : System) : Type 0 where
   pub refusals : (run : Run) (m : Made) (n : ℕ) → S (more run m) → m .result .answer ≡ refused n → Refusal run m n
 
 -- ---- demand 2
--- "Intervals and subrated events mean what the Bluetooth Core Specification says": an accepted interval is one, and F blocks are the
--- longest power of two of blocks, up to the largest, that it holds;
+-- "Intervals and subrated events mean what the Bluetooth Core Specification says": an accepted interval is one, and F base intervals, the time
+-- from one subrated event to the next, are the longest power of two of them, up to the largest, that it holds;
+pub record Meant (interval F : ℕ) : Type 0 where
+  pub allowed : isInterval interval ≡ true
+  pub power : (k : ℕ) × (k ≤ largestK) × (F ≡ 2 ^ k)
+  pub held : F * baseInterval ≤ interval
+  pub longest : (k : ℕ) → k ≤ largestK → 2 ^ k * baseInterval ≤ interval → 2 ^ k ≤ F
+
 abbrev pub IntervalsMeant : System → Type 0
 IntervalsMeant S =
     (run : Run) (m : Made) (x interval floor ceiling F A L : ℕ) → S (more run m)
-    → AdmissionOf (m .request .call) x interval floor ceiling → m .result .answer ≡ ok F A L
-    → (isInterval interval ≡ true) × (F * blockMicros ≤ intervalMicros interval) × ((k : ℕ) → k ≤ largestK → 2 ^ k * blockMicros ≤ intervalMicros interval → 2 ^ k ≤ F)
+    → AdmissionOf (m .request .call) x interval floor ceiling → m .result .answer ≡ ok F A L → Meant interval F
 
 -- and a block belongs to a connection exactly if it is reserved for it: one of its subrated events, or of the continuation events after one.
 abbrev pub EventsMeant : System → Type 0
@@ -83,12 +89,12 @@ TreeGiven S = (run : Run) → S run → now run .tree .bytes ≡ treeFor (now ru
 abbrev pub WholeRunFree : Schedule → ℕ → ℕ → ℕ → Type 0
 WholeRunFree s F A floor = (j : ℕ) → j < floor → (b : ℕ) → b % F ≡ (A + j) % F → (x : ℕ) → has s x b ≡ false
 
--- Checks 1, 2, 4 and 5 pass.
-pub record Reaches (s : Schedule) (x interval floor ceiling : ℕ) : Type 0 where
-  pub check1 : aboveHandles x ≡ false
-  pub check2 : isLive s x ≡ false
-  pub check4 : intervalOutside interval ≡ false
-  pub check5 : shareWrong floor ceiling (2 ^ kOf interval) ≡ false
+-- The checks before that of room, 1, 2, 4 and 5, pass.
+pub record Reaches (s : Schedule) (x i f c : ℕ) : Type 0 where
+  pub handle : aboveHandles x ≡ false
+  pub unused : isLive s x ≡ false
+  pub interval : intervalOutside i ≡ false
+  pub share : shareWrong f c (2 ^ kOf i) ≡ false
 
 -- It is then refused with 6 exactly when there is none, and accepted exactly when there is one.
 pub record RoomAsked (s : Schedule) (answer : Answer) (F floor : ℕ) : Type 0 where
@@ -113,7 +119,7 @@ SavesImage S =
     → (m .result .answer ≡ saved (length (image (now run .connections))))
     × (m .result .lent .buffer ≡ image (now run .connections) ++ drop (length (image (now run .connections))) (m .request .lent .buffer))
 
--- and that is what was restored, where what was restored has the form in which images are saved.
+-- and that is what was restored, where that has the form in which images are saved: as every image has today.
 abbrev pub SavedForm : List ℕ → Type 0
 SavedForm bytes = (cs : List Connection) × (length cs ≡ handles) × (sound cs ≡ true) × (bytes ≡ image cs)
 

@@ -3,6 +3,8 @@ use Prim.Native.Nat.{ℕ}
 use mathlib.Core.Path.{_≡_}
 use mathlib.Core.List.{List}
 use Rattle.rules.specs.declared.Schedule.{Schedule}
+use Rattle.rules.specs.declared.Command.{Command}
+use Rattle.rules.specs.declared.Obeyed.{Obeyed}
 use Rattle.rules.specs.declared.Admitted.{Admitted}
 use Rattle.rules.specs.declared.Dropped.{Dropped}
 use Rattle.rules.specs.declared.Reported.{Reported}
@@ -16,7 +18,7 @@ use Rattle.rules.specs.Anchor.{anchor as anchorRule}
 use Rattle.schedule.specs.Promises.{Starts, Admits, Drops, Reports}
 use Rattle.image.specs.Promises.{Saves, Loads}
 use Rattle.command.specs.declared.Output.{Output}
-use Rattle.command.specs.Promises.{Runs}
+use Rattle.command.specs.Promises.{Obeys, Runs}
 
 pub record OneOutcome : Type 0 where
   pub fresh : (a b : Schedule) → Starts a → Starts b → a ≡ b
@@ -30,3 +32,5 @@ pub record OneOutcome : Type 0 where
   pub save : (s : Schedule) (buffer x y : List ℕ) (a b : Saving) → Saves s buffer x a → Saves s buffer y b → (a ≡ b) × (x ≡ y)
   pub load : (s : Schedule) (bytes : List ℕ) (a b : Loaded) → Loads s bytes a → Loads s bytes b → a ≡ b
   pub run : (input : List ℕ) (a b : Output) → Runs input a → Runs input b → a ≡ b
+  -- Within the command program: the call that a command makes.
+  pub obey : (s : Schedule) (c : Command) (a b : Obeyed) → Obeys s c a → Obeys s c b → a ≡ b

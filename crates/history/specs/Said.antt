@@ -1,15 +1,21 @@
 -- The command program's lines, by the same histories.
-use Prim.Native.Nat.{ℕ}
+use Prim.Native.Nat.{ℕ, _≤_}
+use mathlib.Core.Path.{_≡_}
+use lib.ListN.{length, take}
 use mathlib.Core.List.{List, [], _∷_, _++_}
 use Rattle.rules.specs.declared.Command.{Command}
 use Rattle.rules.specs.declared.Command.the-variants.{Admit as AdmitCommand, Drop as DropCommand, Report as ReportCommand, Owner as OwnerCommand, Anchor as AnchorCommand}
 use Rattle.rules.specs.declared.Line.{Line}
 use Rattle.rules.specs.declared.Line.the-variants.{Says, Bad}
 use Rattle.rules.specs.Text.{byte, text}
+use Rattle.rules.specs.Split.{split}
 use Rattle.rules.specs.Words.{wordsOf}
 use Rattle.rules.specs.Commands.{says}
+use Rattle.rules.specs.Program.{mostInput}
+use Rattle.command.specs.declared.Output.{Output}
+use Rattle.command.specs.Promises.{Runs}
 use Rattle.history.specs.Calls.{Call, Admit, Drop, Report, Owner, Anchor, Request, ruledCall, ruled}
-use Rattle.history.specs.Runs.{History, next, after}
+use Rattle.history.specs.Runs.{Fresh, History, begin, next, after}
 
 -- The call of a command, with nothing lent.
 abbrev pub callOf : Command → Call
@@ -49,3 +55,11 @@ toldAll h (line ∷ lines) = told h (says line) ∷ toldAll (heard h (says line)
 abbrev pub tailTold : List ℕ → List (List ℕ)
 tailTold [] = []
 tailTold (b ∷ bs) = text "bad" ∷ []
+
+-- Of an input of at most 4,096 bytes, whatever the program printed for it, if it meets its promise: its lines are what is told, line by line,
+-- after a fresh start.
+abbrev pub ProgramTold : Type 0
+ProgramTold =
+    (input : List ℕ) (r : Output) → Runs input r → length input ≤ mostInput
+    → split (byte "\n") (take (r .count) (r .bytes))
+    ≡ record { pieces = toldAll (begin Fresh) (split (byte "\n") input .pieces) ++ tailTold (split (byte "\n") input .tail); tail = [] }

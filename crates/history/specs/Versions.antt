@@ -1,9 +1,10 @@
--- Versions that are shut out: the rule sheet's six, and five that answer nearly as they should. Each is a step function.
-use Prim.Native.Nat.{ℕ, _^_}
+-- Versions that are shut out: the rule sheet's six, four that answer nearly as they should, and one that refuses everything with 1. Each is a
+-- step function.
+use Prim.Native.Nat.{ℕ, _+_, _%_, _^_}
 use mathlib.Core.Path.{_≡_}
-use mathlib.Core.Bool.{Bool, true, false, cond, not, _&&_}
+use mathlib.Core.Bool.{Bool, true, false, cond, _&&_}
 use lib.Dec.{eqb}
-use lib.ListN.{set, length, replicate}
+use lib.ListN.{set, getD, length, replicate}
 use Rattle.rules.specs.declared.Schedule.{Schedule}
 use Rattle.rules.specs.declared.Connection.{Connection}
 use Rattle.rules.specs.declared.Refusal.the-variants.{HandleAbove63}
@@ -143,22 +144,24 @@ capped c =
 abbrev pub neverGrows : StepFunction
 neverGrows = storing capped
 
--- An accepted load leaves a mark in a free slot; a save of a schedule without it answers the right size and writes other bytes.
-abbrev marked : Connection
-marked = record { live = false; k = 0; anchor = 1; length = 0; floor = 0; ceiling = 0; estimate = 0 }
+-- An accepted load leaves a mark where no rule looks, the bit of node 0; an accepted save of a schedule without it answers the right size and
+-- writes other bytes.
+abbrev firstByte : Schedule → ℕ
+firstByte s = getD (s .tree .bytes) 0 0
 
-abbrev hasMark : Schedule → Bool
-hasMark s = not (isLive s 63) && eqb (connection s 63 .anchor) 1
+abbrev marked : Schedule → Schedule
+marked s = record { connections = s .connections; tree = record { bytes = set (s .tree .bytes) 0 (firstByte s + 1) } }
 
 abbrev marking : Result → Result
-marking it = cond (accepted (it .answer) && not (isLive (it .schedule) 63)) (leaving (with (it .schedule) 63 marked) it) it
+marking it = cond (accepted (it .answer)) (leaving (marked (it .schedule)) it) it
 
 abbrev blanked : Result → Result
 blanked it = record { answer = it .answer; schedule = it .schedule; lent = record { buffer = replicate (length (it .lent .buffer)) 0 } }
 
 abbrev pub losesBackups : StepFunction
-losesBackups s r = onImage (λ it. cond (hasMark s) it (blanked it)) marking (r .call) (ruled s r)
+losesBackups s r = onImage (λ it. cond (accepted (it .answer) && eqb (firstByte s % 2) 0) (blanked it) it) marking (r .call) (ruled s r)
 
+-- ---- and one that refuses all, with a number that is not room's
 -- Everything is refused with 1.
 abbrev pub refusesWithOne : StepFunction
 refusesWithOne s r = record { answer = refused (number HandleAbove63); schedule = s; lent = r .lent }

@@ -6,16 +6,12 @@ use lib.ListN.{set, replicate}
 use Rattle.rules.specs.declared.Connection.{Connection}
 use Rattle.rules.specs.declared.Schedule.{Schedule}
 use Rattle.rules.specs.Ownership.{handles, nobody}
-use Rattle.rules.specs.Good.{scheduleOf, fresh}
+use Rattle.rules.specs.Sound.{sound}
+use Rattle.rules.specs.Good.{scheduleOf}
 use Rattle.rules.specs.Answers.{refused, tight}
 use Rattle.rules.specs.Handles.{connection}
 use Rattle.rules.specs.Admit.{admit}
 use Rattle.rules.specs.Report.{report}
-
--- The checks of an admission go in order: with all wrong it is 1, and with the interval and the share wrong 4.
-pub first-check-answers : (admit fresh 64 5 0 0 .answer ≡ refused 1) × (admit fresh 0 5 0 0 .answer ≡ refused 4) × (admit fresh 0 48 0 0 .answer ≡ refused 5)
-unfolding admit fresh
-first-check-answers = (refl, refl, refl)
 
 -- Two connections with one block in eight, side by side; the first may grow, and cannot.
 pub neighbour : ℕ → Connection
@@ -29,3 +25,22 @@ neighbours = scheduleOf (set (set (replicate handles nobody) 0 (neighbour 0)) 1 
 pub tight-stores : (report neighbours 0 7500 .answer ≡ tight 1) × (connection (report neighbours 0 7500 .schedule) 0 .estimate ≡ 5312)
 unfolding neighbours report
 tight-stores = (refl, refl)
+
+pub neighbours-sound : sound (neighbours .connections) ≡ true
+unfolding neighbours sound
+neighbours-sound = refl
+
+-- The checks go in order: where two would refuse, the first gives its number. An admission of a handle above 63 with everything else wrong, of one that
+-- is live, of an interval and a share, of a share and no room;
+pub admission-in-order : (admit neighbours 64 5 0 0 .answer ≡ refused 1)
+    × (admit neighbours 0 5 0 0 .answer ≡ refused 2)
+    × (admit neighbours 2 5 0 0 .answer ≡ refused 4)
+    × (admit neighbours 2 6 0 0 .answer ≡ refused 5)
+    × (admit neighbours 2 6 1 1 .answer ≡ refused 6)
+unfolding admit neighbours
+admission-in-order = (refl, refl, refl, refl, refl)
+
+-- a report of a handle above 63, of one that is not live, of a sample above its run.
+pub report-in-order : (report neighbours 64 1 .answer ≡ refused 1) × (report neighbours 2 1 .answer ≡ refused 3) × (report neighbours 0 7501 .answer ≡ refused 7)
+unfolding report neighbours
+report-in-order = (refl, refl, refl)

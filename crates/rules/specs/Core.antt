@@ -37,8 +37,8 @@ eventCounter = 2 ^ 16
 abbrev pub Subrated : Subrating → ℤ → Type 0
 Subrated r event = (q : ℤ) × (event -ℤ pos (r .baseEvent) ≡ q *ℤ pos (r .factor))
 
--- An event is reserved exactly if it is a subrated event, or one of the connContinuationNumber events after one: the event j
--- before it is a subrated one, with j at most connContinuationNumber. Core may use those after a packet with data; here all of
--- them are kept for the connection.
+-- An event is reserved for the connection exactly if it is a subrated event, or one of the connContinuationNumber events after one: the event j
+-- before it is a subrated one, with j at most connContinuationNumber. Core uses a continuation event only after a packet with data, and each such
+-- packet moves the window on; here that window is as long as a run, and all of it is kept for the connection.
 abbrev pub Reserved : Subrating → ℤ → Type 0
 Reserved r event = (j : ℕ) × (j ≤ r .continuation) × Subrated r (event -ℤ pos j)
