@@ -14,6 +14,8 @@ use Rattle.rules.specs.declared.Connection.{Connection}
 use Rattle.rules.specs.Time.{blockMicros, listBlocks, minusMod}
 use Rattle.rules.specs.Core.{intervalMicros, baseInterval, eventCounter, Subrating, Subrated, Reserved}
 use Rattle.rules.specs.Ownership.{largestK, factor, belongs, subrating}
+use Rattle.rules.specs.Classes.{depth}
+use Rattle.blocks.proofs.ClassLaws.{within-depth}
 
 -- ---- (a - b) mod F
 module _ (a b F : ℕ) (pos-F : 0 < F) where
@@ -175,7 +177,7 @@ belongs-mod c b n h =
     (sym (minusMod-mod (b % 2 ^ n) A F (pow-pos (c .k))) ∙ ap (λ (x : ℕ). minusMod x A F) (factor-mod c b n h) ∙ minusMod-mod b A F (pow-pos (c .k)))
 
 pub belongs-list : (c : Connection) (b : ℕ) → c .k ≤ largestK → belongs c (b % listBlocks) ≡ belongs c b
-belongs-list c b h = belongs-mod c b 9 h
+belongs-list c b h = belongs-mod c b depth (within-depth h)
 
 pub belongs-wrapped : (c : Connection) (b : ℕ) → c .k ≤ largestK → belongs c (b % 2 ^ 32) ≡ belongs c b
 belongs-wrapped c b h = belongs-mod c b 32 (omega arith)

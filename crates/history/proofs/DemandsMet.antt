@@ -1,10 +1,16 @@
 -- The customer's demands are met by the rule sheet's step, and by every run of the code.
+use mathlib.Core.Path.{_≡_, ap, _∙_, subst⁻¹}
+use mathlib.Core.List.{List, _++_}
+use Prim.Native.Nat.{ℕ, _≤_}
+use lib.ListN.{length, drop}
 use Rattle.rules.specs.Handles.{connection}
+use Rattle.rules.specs.Answers.{saved}
+use Rattle.rules.specs.Image.{image}
 use Rattle.blocks.proofs.SoundLaws.{Sound}
 use Rattle.blocks.proofs.ScheduleLaws.{good-sound}
 use Rattle.history.specs.Calls.{ruled}
 use Rattle.history.specs.Runs.{Run, more, now, followed, System, By}
-use Rattle.history.specs.Demands.{Demand1, Demand2, Demand3}
+use Rattle.history.specs.Demands.{SavesBack, Demand1, Demand2, Demand3}
 use Rattle.history.specs.Code.{Coded, CodeAsDemanded}
 use Rattle.history.proofs.Following.{now-after, result-after, now-good, coded-ruled}
 use Rattle.history.proofs.Taking.{takes-by, takes-coded}
@@ -54,6 +60,16 @@ module _ (S T : System) (among : (run : Run) → S run → T run) where
         steady = λ run between x s. d .steady run between x (among (followed run between) s);
         lives = λ run x s. d .lives run x (among run s);
       }
+
+-- "An image is restored exactly when it is the image of some sound schedule, and saving that schedule gives the same bytes."
+pub saves-back : (S : System) → Demand1 S → Demand2 S → SavesBack S
+saves-back S one two run m save bytes n s p a q long =
+    let form = two .restore run m bytes (one .takes .earlier (more run m) save s) p .0 (n, a) in
+    let e : image (m .result .schedule .connections) ≡ bytes .list = two .same run m bytes n (one .takes .earlier (more run m) save s) p a form in
+    let w = two .saves (more run m) save s q (subst⁻¹ (λ (l : List ℕ). length l ≤ length (save .request .lent .buffer)) e long) in (
+      w .0 ∙ ap (λ (l : List ℕ). saved (length l)) e,
+      w .1 ∙ ap (λ (l : List ℕ). l ++ drop (length l) (save .request .lent .buffer)) e,
+    )
 
 -- The theorem, of every run of the code.
 pub code-as-demanded : CodeAsDemanded

@@ -257,3 +257,7 @@ unfolding ran after ruledCall
 loses-backups results =
     let z : _≡_ {A = ℕ} 0 2 = ap (λ (b : List ℕ). getD b 0 0) (buffer-given losesBackups start backup results) in
     omega arith
+
+-- None of the four meets demand 2.
+pub nearly-right : (Demand2 (By startsAtZero) → ⊥) × (Demand2 (By forgetsEstimate) → ⊥) × (Demand2 (By neverGrows) → ⊥) × (Demand2 (By losesBackups) → ⊥)
+nearly-right = (λ d. starts-at-zero (d .connections), λ d. forgets-estimate (d .connections), λ d. never-grows (d .connections), λ d. loses-backups (d .results))

@@ -11,9 +11,7 @@ use Rattle.rules.specs.declared.Distance.{Distance}
 use Rattle.rules.specs.declared.Saving.{Saving}
 use Rattle.rules.specs.declared.Loaded.{Loaded}
 use Rattle.rules.specs.Answers.{ofAdmitted, ofDropped, ofReported, ofOwnership, ofDistance, ofSaving, ofLoaded}
-use Rattle.rules.specs.Owner.{ownerOf}
-use Rattle.rules.specs.Anchor.{anchor}
-use Rattle.schedule.specs.Promises.{Starts, Admits, Drops, Reports}
+use Rattle.schedule.specs.Promises.{Starts, Admits, Drops, Reports, OwnerSays, AnchorSays}
 use Rattle.image.specs.Promises.{Saves, Loads}
 use Rattle.history.specs.Calls.{Call, Admit, Drop, Report, Owner, Anchor, Save, Load, Lent, Result, beside, asked, ruled}
 use Rattle.history.specs.Runs.{Start, Fresh, after, Made, Run, begun, more, now, historyOf, System}
@@ -28,8 +26,8 @@ abbrev pub Meets : Schedule → Call → Lent → Result → Type 0
 Meets s (Admit handle interval floor ceiling) lent t = (r : Admitted) × Admits s handle interval floor ceiling r × (t ≡ beside lent (ofAdmitted r))
 Meets s (Drop handle) lent t = (r : Dropped) × Drops s handle r × (t ≡ beside lent (ofDropped r))
 Meets s (Report handle sample) lent t = (r : Reported) × Reports s handle sample r × (t ≡ beside lent (ofReported r))
-Meets s (Owner block) lent t = (r : Ownership) × (ofOwnership r ≡ ownerOf s block) × (t ≡ asked lent s (ofOwnership r))
-Meets s (Anchor handle block) lent t = (r : Distance) × (ofDistance r ≡ anchor s handle block) × (t ≡ asked lent s (ofDistance r))
+Meets s (Owner block) lent t = (r : Ownership) × OwnerSays s block r × (t ≡ asked lent s (ofOwnership r))
+Meets s (Anchor handle block) lent t = (r : Distance) × AnchorSays s handle block r × (t ≡ asked lent s (ofDistance r))
 Meets s Save lent t =
     (r : Saving) × (exit : List ℕ) × Saves s (lent .buffer) exit r × (t ≡ record { answer = ofSaving r; schedule = s; lent = record { buffer = exit } })
 Meets s (Load bytes) lent t = (r : Loaded) × Loads s (bytes .list) r × (t ≡ beside lent (ofLoaded r))

@@ -128,6 +128,16 @@ SavesSame S =
     (run : Run) (m : Made) (bytes : Bytes) (n : ℕ) → S (more run m) → RestoreOf (m .request .call) bytes → m .result .answer ≡ loaded n
     → SavedForm (bytes .list) → image (m .result .schedule .connections) ≡ bytes .list
 
+-- The two together, in the customer's one sentence: what was restored, saved at once, gives the same bytes. A law says so of every system that
+-- meets demands 1 and 2.
+abbrev pub SavesBack : System → Type 0
+SavesBack S =
+    (run : Run) (m save : Made) (bytes : Bytes) (n : ℕ) → S (more (more run m) save)
+    → RestoreOf (m .request .call) bytes → m .result .answer ≡ loaded n
+    → save .request .call ≡ Save → length (bytes .list) ≤ length (save .request .lent .buffer)
+    → (save .result .answer ≡ saved (length (bytes .list)))
+    × (save .result .lent .buffer ≡ bytes .list ++ drop (length (bytes .list)) (save .request .lent .buffer))
+
 pub record Demand2 (S : System) : Type 0 where
   pub intervals : IntervalsMeant S
   pub events : EventsMeant S

@@ -12,10 +12,7 @@ use Rattle.rules.specs.declared.Ownership.{Ownership}
 use Rattle.rules.specs.declared.Distance.{Distance}
 use Rattle.rules.specs.declared.Saving.{Saving}
 use Rattle.rules.specs.declared.Loaded.{Loaded}
-use Rattle.rules.specs.Answers.{ofOwnership, ofDistance}
-use Rattle.rules.specs.Owner.{ownerOf}
-use Rattle.rules.specs.Anchor.{anchor as anchorRule}
-use Rattle.schedule.specs.Promises.{Starts, Admits, Drops, Reports}
+use Rattle.schedule.specs.Promises.{Starts, Admits, Drops, Reports, OwnerSays, AnchorSays}
 use Rattle.image.specs.Promises.{Saves, Loads}
 use Rattle.command.specs.declared.Output.{Output}
 use Rattle.command.specs.Promises.{Obeys, Runs}
@@ -26,9 +23,9 @@ pub record OneOutcome : Type 0 where
       → Admits s handle interval floor ceiling a → Admits s handle interval floor ceiling b → a ≡ b
   pub drop : (s : Schedule) (handle : ℕ) (a b : Dropped) → Drops s handle a → Drops s handle b → a ≡ b
   pub report : (s : Schedule) (handle sample : ℕ) (a b : Reported) → Reports s handle sample a → Reports s handle sample b → a ≡ b
-  pub owner : (s : Schedule) (block : ℕ) (a b : Ownership) → ofOwnership a ≡ ownerOf s block → ofOwnership b ≡ ownerOf s block → a ≡ b
+  pub owner : (s : Schedule) (block : ℕ) (a b : Ownership) → OwnerSays s block a → OwnerSays s block b → a ≡ b
   pub anchor : (s : Schedule) (handle block : ℕ) (a b : Distance)
-      → ofDistance a ≡ anchorRule s handle block → ofDistance b ≡ anchorRule s handle block → a ≡ b
+      → AnchorSays s handle block a → AnchorSays s handle block b → a ≡ b
   pub save : (s : Schedule) (buffer x y : List ℕ) (a b : Saving) → Saves s buffer x a → Saves s buffer y b → (a ≡ b) × (x ≡ y)
   pub load : (s : Schedule) (bytes : List ℕ) (a b : Loaded) → Loads s bytes a → Loads s bytes b → a ≡ b
   pub run : (input : List ℕ) (a b : Output) → Runs input a → Runs input b → a ≡ b

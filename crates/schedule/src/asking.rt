@@ -2,11 +2,9 @@
 ghost use mathlib.Core.Path.{_≡_};
 ghost use mathlib.Core.Bool.{true};
 ghost use Rattle.rules.specs.Good.{Good};
-ghost use Rattle.rules.specs.Answers.{ofOwnership, ofDistance};
 ghost use Rattle.rules.specs.Ownership.{owns as ownsBlock};
-ghost use Rattle.rules.specs.Owner.{ownerOf};
-ghost use Rattle.rules.specs.Anchor.{anchor as anchorRule};
 ghost use Rattle.rules.specs.Sound.{Numbers};
+ghost use Rattle.schedule.specs.Promises.{OwnerSays, AnchorSays};
 use rules::Connection;
 use rules::Distance;
 use rules::Ownership;
@@ -29,7 +27,7 @@ fn owns(c: Connection, block: u32) -> bool
 /// The handle of the connection that the block belongs to, or idle.
 pub fn owner(s: Schedule, block: u32) -> Ownership
     requires { ⌜ Good s ⌝ }
-    ensures { λ r. ⌜ ofOwnership r ≡ ownerOf s block ⌝ }
+    ensures { λ r. ⌜ OwnerSays s block r ⌝ }
 {
     // the block's leaf says idle at once
     if tree::is_free(&s.tree.bytes, 9, block % 512) {
@@ -46,7 +44,7 @@ pub fn owner(s: Schedule, block: u32) -> Ownership
 /// Slots from the start of the block to the connection's next anchor.
 pub fn anchor(s: Schedule, handle: u32, block: u32) -> Distance
     requires { ⌜ Good s ⌝ }
-    ensures { λ r. ⌜ ofDistance r ≡ anchorRule s handle block ⌝ }
+    ensures { λ r. ⌜ AnchorSays s handle block r ⌝ }
 {
     if 63 < handle {
         return Distance::Refused(Refusal::HandleAbove63);
