@@ -1,14 +1,14 @@
 //! The call that a command makes.
 ghost use Rattle.rules.specs.Good.{Good};
 ghost use Rattle.command.specs.Promises.{Obeys};
+use questions::anchor;
+use questions::owner;
 use rules::Command;
 use rules::Obeyed;
 use rules::Reply;
 use rules::Schedule;
 use schedule::admit;
-use schedule::anchor;
 use schedule::drop;
-use schedule::owner;
 use schedule::report;
 
 /// Makes the call; a question leaves the schedule as it is.

@@ -7,12 +7,10 @@ use Rattle.rules.specs.declared.Schedule.{Schedule}
 use Rattle.rules.specs.declared.Admitted.{Admitted}
 use Rattle.rules.specs.declared.Dropped.{Dropped}
 use Rattle.rules.specs.declared.Reported.{Reported}
-use Rattle.rules.specs.declared.Ownership.{Ownership}
-use Rattle.rules.specs.declared.Distance.{Distance}
 use Rattle.rules.specs.Good.{Good}
-use Rattle.rules.specs.Answers.{Answer, Outcome, refused, ok, dropped, ofOwnership, ofDistance, ofAdmitted, ofDropped, ofReported}
+use Rattle.rules.specs.Answers.{Outcome, refused, ok, dropped, ofAdmitted, ofDropped, ofReported}
 use Rattle.rules.specs.Handles.{connection, isLive}
-use Rattle.calls.proofs.AnswerLaws.{admitted-injective, dropped-injective, reported-injective, ownership-injective, distance-injective}
+use Rattle.calls.proofs.AnswerLaws.{admitted-injective, dropped-injective, reported-injective}
 use Rattle.calls.proofs.AdmitLaws.{admit-others}
 use Rattle.calls.proofs.DropLaws.{drop-others}
 use Rattle.calls.proofs.ReportLaws.{report-others}
@@ -29,12 +27,6 @@ drop-unique s h a b p q = dropped-injective a b (p .is ∙ sym (q .is))
 
 pub report-unique : (s : Schedule) (h sample : ℕ) (a b : Reported) → Reports s h sample a → Reports s h sample b → a ≡ b
 report-unique s h sample a b p q = reported-injective a b (p .is ∙ sym (q .is))
-
-pub owner-unique : (rule : Answer) (a b : Ownership) → ofOwnership a ≡ rule → ofOwnership b ≡ rule → a ≡ b
-owner-unique rule a b p q = ownership-injective a b (p ∙ sym q)
-
-pub anchor-unique : (rule : Answer) (a b : Distance) → ofDistance a ≡ rule → ofDistance b ≡ rule → a ≡ b
-anchor-unique rule a b p q = distance-injective a b (p ∙ sym q)
 
 -- ---- what a result is, is said of its schedule
 -- A result whose outcome is a rule's: what holds of the schedule that the rule leaves holds of its own.

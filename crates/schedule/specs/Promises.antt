@@ -9,19 +9,15 @@ use Rattle.rules.specs.declared.Connection.{Connection}
 use Rattle.rules.specs.declared.Admitted.{Admitted}
 use Rattle.rules.specs.declared.Dropped.{Dropped}
 use Rattle.rules.specs.declared.Reported.{Reported}
-use Rattle.rules.specs.declared.Ownership.{Ownership}
-use Rattle.rules.specs.declared.Distance.{Distance}
 use Rattle.rules.specs.declared.Reporting.{Reporting}
 use Rattle.rules.specs.declared.Reporting.the-variants.{Kept, Grown, Shrunk, Tight, Refused as ReportingRefused}
 use Rattle.rules.specs.Classes.{setRun}
 use Rattle.rules.specs.TreeBytes.{treeOf}
-use Rattle.rules.specs.Answers.{ofAdmitted, ofDropped, ofReporting, ofReported, ofOwnership, ofDistance}
+use Rattle.rules.specs.Answers.{ofAdmitted, ofDropped, ofReporting, ofReported}
 use Rattle.rules.specs.Admit.{admit}
 use Rattle.rules.specs.Drop.{drop}
 use Rattle.rules.specs.Meter.{change}
 use Rattle.rules.specs.Report.{roomToGrow, report}
-use Rattle.rules.specs.Owner.{ownerOf}
-use Rattle.rules.specs.Anchor.{anchor}
 use Rattle.rules.specs.Good.{Good, fresh}
 use Rattle.tree.specs.Promises.{ByTree}
 
@@ -65,10 +61,3 @@ pub record Drops (s : Schedule) (handle : ℕ) (r : Dropped) : Type 0 where
 pub record Reports (s : Schedule) (handle sample : ℕ) (r : Reported) : Type 0 where
   pub is : ofReported r ≡ report s handle sample
   pub good : Good (r .schedule)
-
--- Each question: the answer is what the rule gives; nothing is changed.
-abbrev pub OwnerSays : Schedule → ℕ → Ownership → Type 0
-OwnerSays s block r = ofOwnership r ≡ ownerOf s block
-
-abbrev pub AnchorSays : Schedule → ℕ → ℕ → Distance → Type 0
-AnchorSays s handle block r = ofDistance r ≡ anchor s handle block

@@ -1,11 +1,11 @@
--- `schedule::asking::owns` meets its contract.
+-- `questions::owns` meets its contract.
 use borrow.Author.Needs.{needs}
 use mathlib.Core.Path.{ap}
 use Prim.Native.Nat.{ℕ}
 use lib.Dec.{ltb}
 use Rattle.rules.specs.Ownership.{belongs, owns}
-use Rattle.schedule.proofs.asking.owns.Statement.{statement}
-use Rattle.schedule.proofs.asking.owns.Tie as tie
+use Rattle.questions.proofs.owns.Statement.{statement}
+use Rattle.questions.proofs.owns.Tie as tie
 use Rattle.blocks.proofs.ClassLaws.{within-depth}
 
 cast-minus-mod : tie.Need-cast-minus-mod

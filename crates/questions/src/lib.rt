@@ -4,7 +4,7 @@ ghost use mathlib.Core.Bool.{true};
 ghost use Rattle.rules.specs.Good.{Good};
 ghost use Rattle.rules.specs.Ownership.{owns as ownsBlock};
 ghost use Rattle.rules.specs.Sound.{Numbers};
-ghost use Rattle.schedule.specs.Promises.{OwnerSays, AnchorSays};
+ghost use Rattle.questions.specs.Promises.{OwnerSays, AnchorSays};
 use rules::Connection;
 use rules::Distance;
 use rules::Ownership;

@@ -1,4 +1,4 @@
--- `schedule::asking::anchor` meets its contract.
+-- `questions::anchor` meets its contract.
 use borrow.Author.Needs.{needs}
 use mathlib.Core.Path.{sym, ap, _∙_}
 use Prim.Native.Nat.{ℕ, _*_, _^_, _≤_}
@@ -10,8 +10,8 @@ use Rattle.rules.specs.Anchor.{slotsToAnchor}
 use Rattle.rules.specs.Sound.{Numbers}
 use Rattle.blocks.proofs.ScheduleLaws.{good-sound}
 use Rattle.calls.proofs.QuestionLaws.{anchor-1, anchor-3, anchor-ok}
-use Rattle.schedule.proofs.asking.anchor.Statement.{statement}
-use Rattle.schedule.proofs.asking.anchor.Tie as tie
+use Rattle.questions.proofs.anchor.Statement.{statement}
+use Rattle.questions.proofs.anchor.Tie as tie
 use Rattle.blocks.proofs.ClassLaws.{within-depth}
 
 returns : tie.Need-returns

@@ -1,4 +1,4 @@
--- `schedule::asking::owner` meets its contract. An idle leaf says idle. The invariant: no handle before h has the block.
+-- `questions::owner` meets its contract. An idle leaf says idle. The invariant: no handle before h has the block.
 use borrow.Author.Needs.{needs}
 use mathlib.Core.Path.{_≡_, sym, ap, _∙_}
 use mathlib.Core.Bool.{false}
@@ -11,9 +11,8 @@ use Rattle.rules.specs.Ownership.{owns, taken}
 use Rattle.rules.specs.Handles.{connection}
 use Rattle.blocks.proofs.ScheduleLaws.{good-sound, good-tree}
 use Rattle.calls.proofs.QuestionLaws.{owner-found, owner-none, owner-leaf}
-use Rattle.schedule.proofs.Exits.{treed}
-use Rattle.schedule.proofs.asking.owner.Statement.{statement}
-use Rattle.schedule.proofs.asking.owner.Tie as tie
+use Rattle.questions.proofs.owner.Statement.{statement}
+use Rattle.questions.proofs.owner.Tie as tie
 
 abbrev Inv-loop : tie.InvT-loop
 Inv-loop block s h₀ h = (h ≤ 64) × ((j : ℕ) → j < h → owns (connection s j) block ≡ false)
@@ -22,7 +21,7 @@ abbrev μ-loop : tie.MeasureT-loop
 μ-loop block s h₀ h = 64 - h
 
 is-free-requires : tie.Need-is-free-requires Inv-loop μ-loop
-is-free-requires c κs = (search needs, mod-lt _ (omega arith), treed (c .before .before .args .t1) (c .before .before .pre))
+is-free-requires c κs = (search needs, mod-lt _ (omega arith), (taken (c .before .before .args .t1 .connections), good-tree (c .before .before .args .t1) (c .before .before .pre)))
 
 returns : tie.Need-returns Inv-loop μ-loop
 returns c =

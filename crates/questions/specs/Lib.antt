@@ -1,0 +1,2 @@
+-- What the questions promise.
+pub mod Promises
