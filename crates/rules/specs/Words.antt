@@ -27,3 +27,8 @@ wordsOf idle = text "idle"
 wordsOf (slots n) = text "slots" ++ spaced (n ∷ [])
 wordsOf (saved n) = text "saved" ++ spaced (n ∷ [])
 wordsOf (loaded n) = text "loaded" ++ spaced (n ∷ [])
+
+-- A line of the command program, with its LF, has so many bytes at most: `ok` and three numbers of 32 bits would have more, but those of an answer are
+-- of 16; and a command and its LF have a quarter of it at least.
+abbrev pub longestAnswer : ℕ
+longestAnswer = 28
