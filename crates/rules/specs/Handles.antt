@@ -4,7 +4,7 @@ use mathlib.Core.Bool.{Bool, not}
 use lib.Dec.{ltb}
 use Rattle.rules.specs.declared.Connection.{Connection}
 use Rattle.rules.specs.declared.Schedule.{Schedule}
-use Rattle.rules.specs.Ownership.{at}
+use Rattle.rules.specs.Ownership.{lastHandle, at}
 
 -- The connection of a handle in a schedule.
 abbrev pub connection : Schedule → ℕ → Connection
@@ -12,7 +12,7 @@ connection s h = at (s .connections) h
 
 -- 1: "handle above 63"
 abbrev pub aboveHandles : ℕ → Bool
-aboveHandles h = ltb 63 h
+aboveHandles h = ltb lastHandle h
 
 -- 2: "handle already live"
 abbrev pub isLive : Schedule → ℕ → Bool

@@ -1,4 +1,4 @@
--- `place::place` meets its contract: the row shows what the tree shows.
+-- `place::first_open` meets its contract: the row shows what the tree shows.
 use borrow.Author.Needs.{needs}
 use mathlib.Core.Path.{_≡_, ap, _∙_}
 use mathlib.Core.Bool.{Bool}
@@ -8,8 +8,8 @@ use Rattle.rules.specs.Mirror.{mirrored}
 use Rattle.rules.specs.TreeBytes.{treeOf, bitAt}
 use Rattle.blocks.proofs.TreeLaws.{tree-class}
 use Rattle.place.specs.Promises.{Stretches}
-use Rattle.place.proofs.place.Statement.{statement}
-use Rattle.place.proofs.place.Tie as tie
+use Rattle.place.proofs.first_open.Statement.{statement}
+use Rattle.place.proofs.first_open.Tie as tie
 
 read-depth-requires : tie.Need-read-depth-requires
 read-depth-requires c κs = search needs
@@ -36,5 +36,5 @@ search-requires c κs =
 returns : tie.Need-returns
 returns c f e = c .search .ensures f (measured (c .before .before .before) f e)
 
-pub place-spec : {M : Type 1} → statement M
-place-spec = tie.close (tie.spec read-depth-requires measure-requires search-requires returns)
+pub first-open-spec : {M : Type 1} → statement M
+first-open-spec = tie.close (tie.spec read-depth-requires measure-requires search-requires returns)

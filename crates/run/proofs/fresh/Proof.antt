@@ -1,4 +1,4 @@
--- `schedule::start::fresh` meets its contract.
+-- `run::fresh` meets its contract.
 use borrow.Author.Needs.{needs}
 use mathlib.Core.Path.{_≡_, _∙_, sym, ap₂, subst}
 use mathlib.Core.List.{List}
@@ -6,10 +6,10 @@ use Prim.Native.Nat.{ℕ}
 use lib.ListN.{replicate}
 use Rattle.rules.specs.declared.Connection.{Connection}
 use Rattle.rules.specs.declared.Schedule.{Schedule}
-use Rattle.rules.specs.Good.{Good, scheduleOf, fresh}
+use Rattle.rules.specs.Good.{Good, fresh}
 use Rattle.blocks.proofs.ScheduleLaws.{fresh-tree, fresh-is-good}
-use Rattle.schedule.proofs.start.fresh.Statement.{statement}
-use Rattle.schedule.proofs.start.fresh.Tie as tie
+use Rattle.run.proofs.fresh.Statement.{statement}
+use Rattle.run.proofs.fresh.Tie as tie
 
 nobody-requires : tie.Need-nobody-requires
 nobody-requires c κs = search needs
@@ -21,7 +21,7 @@ abbrev made : Connection → List ℕ → Schedule
 made c bytes = record { connections = replicate 64 c; tree = record { bytes = bytes } }
 
 returns : tie.Need-returns
-unfolding fresh scheduleOf
+unfolding fresh
 returns c =
     let e : made (c .before .nobody .result) (c .empty .result) ≡ fresh = ap₂ made (c .before .nobody .ensures) (c .empty .ensures ∙ fresh-tree) in
     record { is = e; good = subst Good (sym e) fresh-is-good }
