@@ -17,7 +17,7 @@ use Rattle.rules.specs.Good.{Good, FreeSlotsZero, treeFor, withConnections}
 use Rattle.rules.specs.Answers.{Outcome, dropped, refusing}
 use Rattle.rules.specs.Refusals.{number}
 use Rattle.rules.specs.Handles.{isLive, connection}
-use Rattle.rules.specs.Drop.{dropChecks, dropDone, dropOf}
+use Rattle.rules.specs.Drop.{dropChecks, dropDone, dropHandle}
 use Rattle.calls.proofs.RefusalLaws.{decided-cases}
 use Rattle.blocks.proofs.ScheduleLaws.{nobody-owns, others-at, others-of, sound-set, good-sound, inside, set-good, set-zero, set-other, set-same}
 use Rattle.blocks.proofs.SoundLaws.{Sound, sound-exactly, sound-all, taken-periodic}
@@ -26,42 +26,42 @@ use Rattle.blocks.proofs.TreeLaws.{tree-bit}
 
 -- ---- each exit
 module _ (s : Schedule) (h : ℕ) where
-  pub drop-1 : 63 < h → dropOf s h ≡ refusing s (number HandleAbove63)
-  unfolding dropOf
+  pub drop-1 : 63 < h → dropHandle s h ≡ refusing s (number HandleAbove63)
+  unfolding dropHandle
   drop-1 p = rw (lt-ltb 63 h p)
 
-  pub drop-3 : h ≤ 63 → isLive s h ≡ false → dropOf s h ≡ refusing s (number HandleNotLive)
-  unfolding dropOf
+  pub drop-3 : h ≤ 63 → isLive s h ≡ false → dropHandle s h ≡ refusing s (number HandleNotLive)
+  unfolding dropHandle
   drop-3 p q = rw (le-ltb 63 h p, q)
 
-  pub drop-ok : h ≤ 63 → isLive s h ≡ true → dropOf s h ≡ dropDone s h
-  unfolding dropOf
+  pub drop-ok : h ≤ 63 → isLive s h ≡ true → dropHandle s h ≡ dropDone s h
+  unfolding dropHandle
   drop-ok p q = rw (le-ltb 63 h p, q)
 
 -- ---- the schedule afterwards
 -- It is as before, or the handle, which was live, has become a free slot.
-pub drop-cases : (s : Schedule) (h : ℕ) (P : Outcome → Type 0) → ((n : ℕ) → P (refusing s n)) → (h ≤ 63 → isLive s h ≡ true → P (dropDone s h)) → P (dropOf s h)
-unfolding dropOf
+pub drop-cases : (s : Schedule) (h : ℕ) (P : Outcome → Type 0) → ((n : ℕ) → P (refusing s n)) → (h ≤ 63 → isLive s h ≡ true → P (dropDone s h)) → P (dropHandle s h)
+unfolding dropHandle
 drop-cases s h P f g = decided-cases P (dropChecks s h) (refusing s) (dropDone s h) (λ why. f (number why)) (λ p. g (ltb-false 63 h (p .0)) (not-false (isLive s h) (p .1 .0)))
 
 module _ (s : Schedule) (good : Good s) (h : ℕ) where
   -- A drop leaves a good schedule.
-  pub drop-good : Good (dropOf s h .schedule)
+  pub drop-good : Good (dropHandle s h .schedule)
   unfolding dropDone
   drop-good = drop-cases s h (λ o. Good (o .schedule)) (λ n. good) (λ p q. set-good s good h p nobody (λ e. absurd (false≢true e)) (λ b e. absurd (false≢true (sym (nobody-owns b) ∙ e))))
 
   -- Free slots stay zeros.
-  pub drop-zero : FreeSlotsZero s → FreeSlotsZero (dropOf s h .schedule)
+  pub drop-zero : FreeSlotsZero s → FreeSlotsZero (dropHandle s h .schedule)
   unfolding dropDone
   drop-zero z = drop-cases s h (λ o. FreeSlotsZero (o .schedule)) (λ n. z) (λ p q. set-zero s good h p z nobody (λ e. refl))
 
   -- Every other connection is as it was.
-  pub drop-others : (j : ℕ) → j ≢ h → connection (dropOf s h .schedule) j ≡ connection s j
+  pub drop-others : (j : ℕ) → j ≢ h → connection (dropHandle s h .schedule) j ≡ connection s j
   unfolding dropDone
   drop-others j n = drop-cases s h (λ o. connection (o .schedule) j ≡ connection s j) (λ n. refl) (λ p q. set-other s good h p nobody j n)
 
   -- After an accepted drop the handle is free.
-  pub drop-ends : dropOf s h .answer ≡ dropped → connection (dropOf s h .schedule) h ≡ nobody
+  pub drop-ends : dropHandle s h .answer ≡ dropped → connection (dropHandle s h .schedule) h ≡ nobody
   unfolding dropDone
   drop-ends =
       drop-cases s h (λ o. o .answer ≡ dropped → connection (o .schedule) h ≡ nobody)

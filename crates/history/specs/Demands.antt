@@ -74,9 +74,9 @@ ResultsGiven S = (run : Run) (m : Made) → S (more run m) → (m .result .answe
 
 -- and of each handle: it is live in one exactly if in the other, and then has its factor, anchor, length, floor, ceiling and estimate.
 -- What stands in a free slot is nobody's business.
-pub record Alike (mine given : Connection) : Type 0 where
-  pub live : mine .live ≡ given .live
-  pub numbers : given .live ≡ true → mine ≡ given
+pub record Alike (mine sheets : Connection) : Type 0 where
+  pub live : mine .live ≡ sheets .live
+  pub numbers : sheets .live ≡ true → mine ≡ sheets
 
 abbrev pub ConnectionsGiven : System → Type 0
 ConnectionsGiven S = (run : Run) (x : ℕ) → S run → Alike (connection (now run) x) (connection (after (historyOf run)) x)
@@ -173,8 +173,8 @@ Near S =
     × (has (now run) x b ≡ true → d ≡ 0)
 
 -- "No block belongs to two connections."
-abbrev pub Apart : System → Type 0
-Apart S = (run : Run) (x y b : ℕ) → S run → has (now run) x b ≡ true → has (now run) y b ≡ true → x ≡ y
+abbrev pub ApartEver : System → Type 0
+ApartEver S = (run : Run) (x y b : ℕ) → S run → has (now run) x b ≡ true → has (now run) y b ≡ true → x ≡ y
 
 -- "L stays between the floor and ceiling it was admitted or restored with."
 abbrev pub Bounded : System → Type 0
@@ -200,7 +200,7 @@ Lives S = (run : Run) (x : ℕ) → S run → (isLive (now run) x ≡ true) ↔ 
 pub record Demand3 (S : System) : Type 0 where
   pub counted : Counted S
   pub near : Near S
-  pub apart : Apart S
+  pub apart : ApartEver S
   pub bounded : Bounded S
   pub steady : Steady S
   pub lives : Lives S

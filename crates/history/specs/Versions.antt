@@ -13,7 +13,7 @@ use Rattle.rules.specs.Refusals.{number}
 use Rattle.rules.specs.Handles.{connection, isLive}
 use Rattle.rules.specs.Answers.{Answer, refused, ok, dropped, kept, grown, shrunk, tight, owner, idle, slots, saved, loaded}
 use Rattle.rules.specs.Admit.{kOf, newConnection}
-use Rattle.rules.specs.Drop.{dropOf}
+use Rattle.rules.specs.Drop.{dropHandle}
 use Rattle.rules.specs.Report.{metered}
 use Rattle.history.specs.Calls.{Bytes, Call, Admit, Drop, Report, Owner, Anchor, Save, Load, Lent, Request, Result, ruledCall, ruled}
 use Rattle.history.specs.Runs.{StepFunction}
@@ -118,7 +118,7 @@ makesUpLength = storing (λ c. metered c 1000 (c .estimate))
 
 -- "one that ends a connection nobody dropped": whoever asks for an owner ends handle 0's.
 abbrev pub endsAnother : StepFunction
-endsAnother s r = onOwner (leaving (dropOf s 0 .schedule)) (r .call) (ruled s r)
+endsAnother s r = onOwner (leaving (dropHandle s 0 .schedule)) (r .call) (ruled s r)
 
 -- ---- nearly as it should be
 -- An admission stores estimate 0.

@@ -37,8 +37,8 @@ pub record Stretches (k : ℕ) (taken : ℕ → Bool) (room : List ℕ) : Type 0
   pub clear : (A i : ℕ) → A < 2 ^ k → i < getD room A 0 → (A + i < 2 ^ k) × (classTaken taken k (A + i) ≡ false)
 
 -- By the row of what is taken.
-abbrev pub Measures : ℕ → List Bool → List ℕ → Type 0
-Measures k row room = (taken : ℕ → Bool) → Row k taken row → Stretches k taken room
+abbrev pub MeasuresRoom : ℕ → List Bool → List ℕ → Type 0
+MeasuresRoom k row room = (taken : ℕ → Bool) → Row k taken row → Stretches k taken room
 
 -- The stretches of what some test says is taken.
 abbrev pub IsRoom : ℕ → List ℕ → Type 0

@@ -6,7 +6,7 @@ ghost use Rattle.rules.specs.Time.{listBlocks};
 ghost use Rattle.rules.specs.Classes.{depth};
 ghost use Rattle.place.specs.Steps.{ofInterval, ofShare, intervalStep, shareStep};
 ghost use Rattle.tree.specs.Promises.{IsTree};
-ghost use Rattle.place.specs.Promises.{Anchors, Reads, Measures, IsRoom, Searches, Places, Plans, Long};
+ghost use Rattle.place.specs.Promises.{Anchors, Reads, MeasuresRoom, IsRoom, Searches, Places, Plans, Long};
 use rules::Interval;
 use rules::LIST_BLOCKS;
 use rules::Place;
@@ -76,7 +76,7 @@ fn read_depth(
 // How many classes are free from each one on, up to the last of the depth; none where it is taken.
 fn measure(taken: &[bool; LIST_BLOCKS], k: u32, room: &mut [u16; LIST_BLOCKS])
     requires { ⌜ (k ≤ depth) × (length (now room) ≡ listBlocks) ⌝ }
-    ensures { λ _. ⌜ Measures k (now (taken .entry)) (now (room .exit)) ⌝ }
+    ensures { λ _. ⌜ MeasuresRoom k (now (taken .entry)) (now (room .exit)) ⌝ }
 {
     let mut c = factor(k) as usize;
     let mut free: u16 = 0;

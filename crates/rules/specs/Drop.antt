@@ -20,6 +20,6 @@ dropDone s handle =
     let after = withConnection s handle nobody in
     record { answer = dropped; schedule = after }
 
-unfoldable pub dropOf : Schedule → ℕ → Outcome
+unfoldable pub dropHandle : Schedule → ℕ → Outcome
 unfolding dropDone decided
-dropOf s handle = decided (dropChecks s handle) (refusing s) (dropDone s handle)
+dropHandle s handle = decided (dropChecks s handle) (refusing s) (dropDone s handle)

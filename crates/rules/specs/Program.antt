@@ -12,7 +12,7 @@ use Rattle.rules.specs.declared.Line.the-variants.{Says, Bad}
 use Rattle.rules.specs.Good.{fresh}
 use Rattle.rules.specs.Answers.{Outcome}
 use Rattle.rules.specs.Admit.{admit}
-use Rattle.rules.specs.Drop.{dropOf}
+use Rattle.rules.specs.Drop.{dropHandle}
 use Rattle.rules.specs.Report.{report}
 use Rattle.rules.specs.Owner.{ownerOf}
 use Rattle.rules.specs.Anchor.{anchor}
@@ -31,9 +31,9 @@ mostOutput = 4 * mostInput
 
 -- The call that a command makes. A question leaves the schedule as it is.
 unfoldable pub obey : Schedule → Command → Outcome
-unfolding admit dropOf report ownerOf anchor
+unfolding admit dropHandle report ownerOf anchor
 obey s (Admit handle interval floor ceiling) = admit s handle interval floor ceiling
-obey s (Drop handle) = dropOf s handle
+obey s (Drop handle) = dropHandle s handle
 obey s (Report handle sample) = report s handle sample
 obey s (Owner block) = record { answer = ownerOf s block; schedule = s }
 obey s (Anchor handle block) = record { answer = anchor s handle block; schedule = s }

@@ -20,7 +20,7 @@ use Rattle.rules.specs.TreeBytes.{treeOf}
 use Rattle.rules.specs.Answers.{Answer, Outcome, ok, dropped, refusing, ofAdmitted, ofDropped, ofReporting, ofReported}
 use Rattle.rules.specs.Handles.{connection, isLive}
 use Rattle.rules.specs.Admit.{newConnection, admit}
-use Rattle.rules.specs.Drop.{dropDone, dropOf}
+use Rattle.rules.specs.Drop.{dropDone, dropHandle}
 use Rattle.rules.specs.Meter.{moved, need, movedMeter, change, newLength}
 use Rattle.rules.specs.Report.{roomToGrow, metered, aim, reportAnswer, reportLength, reportDone, report}
 use Rattle.rules.specs.Steps.{places, refuses}
@@ -75,12 +75,12 @@ module _ (s : Schedule) (good : Good s) (h i f c : ℕ) where
 
 -- ---- drop
 module _ (s : Schedule) (good : Good s) (h : ℕ) where
-  pub drops : (r : Dropped) → ofDropped r ≡ dropOf s h → Drops s h r
+  pub drops : (r : Dropped) → ofDropped r ≡ dropHandle s h → Drops s h r
   drops r e = record { is = e; good = subst Good (sym (ap (λ (o : Outcome). o .schedule) e)) (drop-good s good h) }
 
   pub drop-made : h ≤ 63 → isLive s h ≡ true → (free : Connection) (bytes : List ℕ) → free ≡ nobody
       → SetsRun (connection s h .k) (connection s h .anchor) 0 (connection s h .length) false (s .tree .bytes) bytes
-      → _≡_ {A = Outcome} (record { answer = dropped; schedule = record { connections = set (s .connections) h free; tree = record { bytes = bytes } } }) (dropOf s h)
+      → _≡_ {A = Outcome} (record { answer = dropped; schedule = record { connections = set (s .connections) h free; tree = record { bytes = bytes } } }) (dropHandle s h)
   unfolding dropDone
   drop-made b q free bytes n r =
       let c = connection s h in

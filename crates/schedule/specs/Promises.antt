@@ -15,7 +15,7 @@ use Rattle.rules.specs.Classes.{setRun}
 use Rattle.rules.specs.TreeBytes.{treeOf}
 use Rattle.rules.specs.Answers.{ofAdmitted, ofDropped, ofReporting, ofReported}
 use Rattle.rules.specs.Admit.{admit}
-use Rattle.rules.specs.Drop.{dropOf}
+use Rattle.rules.specs.Drop.{dropHandle}
 use Rattle.rules.specs.Meter.{change}
 use Rattle.rules.specs.Report.{roomToGrow, report}
 use Rattle.rules.specs.Good.{Good}
@@ -50,7 +50,7 @@ pub record Admits (s : Schedule) (handle interval floor ceiling : ℕ) (r : Admi
   pub good : Good (r .schedule)
 
 pub record Drops (s : Schedule) (handle : ℕ) (r : Dropped) : Type 0 where
-  pub is : ofDropped r ≡ dropOf s handle
+  pub is : ofDropped r ≡ dropHandle s handle
   pub good : Good (r .schedule)
 
 pub record Reports (s : Schedule) (handle sample : ℕ) (r : Reported) : Type 0 where

@@ -8,7 +8,7 @@ use Rattle.rules.specs.Time.{listBlocks}
 use Rattle.rules.specs.Classes.{depth, free, inClass, withClass, withoutClass}
 use Rattle.rules.specs.Mirror.{mirrored}
 use Rattle.rules.specs.TreeBytes.{treeOf, bitAt, Sized}
-use Rattle.blocks.specs.Joined.{Joined}
+use Rattle.blocks.specs.Children.{OrOfChildren}
 use Rattle.tree.specs.Under.{under}
 
 pub record Mirrored (k p r : ℕ) : Type 0 where
@@ -33,12 +33,12 @@ pub record Joins (n : ℕ) (before after : List ℕ) (changed : Bool) : Type 0 w
 
 -- Every inner node is the OR of its children, but perhaps for the one over n.
 abbrev pub MissingOver : ℕ → List ℕ → Type 0
-MissingOver n t = (a : ℕ) → 0 < a → a < listBlocks → eqb a (n / 2) ≡ false → Joined t a
+MissingOver n t = (a : ℕ) → 0 < a → a < listBlocks → eqb a (n / 2) ≡ false → OrOfChildren t a
 
 -- Now every inner node is; only nodes above n may have a new bit.
 pub record JoinsAbove (n : ℕ) (before after : List ℕ) : Type 0 where
   pub sized : Sized after
-  pub joined : (a : ℕ) → 0 < a → a < listBlocks → Joined after a
+  pub joined : (a : ℕ) → 0 < a → a < listBlocks → OrOfChildren after a
   pub others : (m : ℕ) → 0 < m → under depth m (n / 2) ≡ false → bitAt after m ≡ bitAt before m
   pub zeroth : bitAt after 0 ≡ bitAt before 0
 

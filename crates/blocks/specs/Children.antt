@@ -6,5 +6,5 @@ use mathlib.Core.List.{List}
 use Rattle.rules.specs.TreeBytes.{bitAt}
 
 -- Node a of the bytes is the OR of its two children.
-abbrev pub Joined : List ℕ → ℕ → Type 0
-Joined t a = bitAt t a ≡ bitAt t (2 * a) || bitAt t (2 * a + 1)
+abbrev pub OrOfChildren : List ℕ → ℕ → Type 0
+OrOfChildren t a = bitAt t a ≡ bitAt t (2 * a) || bitAt t (2 * a + 1)
