@@ -21,7 +21,7 @@ use Rattle.rules.specs.Image.{image, IsImage}
 use Rattle.rules.specs.Answers.{Answer, refused, ok, saved, loaded}
 use Rattle.history.specs.Calls.{Bytes, Save, Request, Result, ruled}
 use Rattle.history.specs.Runs.{Start, after, Made, Run, begun, more, now, historyOf, followed, System}
-use Rattle.history.specs.Moments.{AdmissionOf, Placed, RestoreOf, Lasts, Unreported, Alive}
+use Rattle.history.specs.Moments.{AdmissionOf, Placed, RestoreOf, Lasts, Unreported, Unmoved, Alive}
 
 -- Block b belongs to the live connection of handle x: what all that follows says of blocks goes through this.
 abbrev pub has : Schedule → ℕ → ℕ → Bool
@@ -187,7 +187,7 @@ abbrev pub Steady : System → Type 0
 Steady S =
     (earlier : Run) (between : List Made) (x : ℕ) → S (followed earlier between) → isLive (now earlier) x ≡ true → Lasts x between
     → (connection (now (followed earlier between)) x .k ≡ connection (now earlier) x .k)
-    × (connection (now (followed earlier between)) x .anchor ≡ connection (now earlier) x .anchor)
+    × (Unmoved x between → connection (now (followed earlier between)) x .anchor ≡ connection (now earlier) x .anchor)
     × (Unreported x between
     → (connection (now (followed earlier between)) x .length ≡ connection (now earlier) x .length)
     × (connection (now (followed earlier between)) x .estimate ≡ connection (now earlier) x .estimate))
