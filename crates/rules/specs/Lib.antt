@@ -19,6 +19,7 @@ pub mod Meter
 pub mod Report
 pub mod Owner
 pub mod Anchor
+pub mod Obey
 pub mod Bytes
 pub mod Image
 pub mod Save

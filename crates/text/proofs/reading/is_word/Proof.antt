@@ -1,9 +1,9 @@
--- `script::is_word` meets its contract: as long as the word, and it opens with it.
+-- `text::is_word` meets its contract: as long as the word, and it opens with it.
 use borrow.Author.Needs.{needs}
 use mathlib.Core.Path.{sym, _∙_}
-use Rattle.script.proofs.Asked.{is-shorter, is-opened}
-use Rattle.script.proofs.asking.is_word.Statement.{statement}
-use Rattle.script.proofs.asking.is_word.Tie as tie
+use Rattle.text.proofs.Opening.{is-shorter, is-opened}
+use Rattle.text.proofs.reading.is_word.Statement.{statement}
+use Rattle.text.proofs.reading.is_word.Tie as tie
 
 returns : tie.Need-returns
 returns c =

@@ -1,14 +1,14 @@
--- `script::put_saving` meets its contract: the word and the number, or the refusal.
+-- `line::put_saving` meets its contract: the word and the number, or the refusal.
 use borrow.Author.Needs.{needs}
 use mathlib.Core.Path.{sym, ap, subst}
 use native.Mathlib.Omega.{arith}
 use Rattle.rules.specs.Answers.{ofSaving}
 use Rattle.rules.specs.Words.{wordsOf}
 use Rattle.text.proofs.Putting.{puts-length}
-use Rattle.script.specs.Promises.{SizeFits}
-use Rattle.script.proofs.Printing.{words-as}
-use Rattle.script.proofs.performing.put_saving.Statement.{statement}
-use Rattle.script.proofs.performing.put_saving.Tie as tie
+use Rattle.line.specs.Promises.{SizeFits}
+use Rattle.line.proofs.Lines.{words-as}
+use Rattle.line.proofs.answering.put_saving.Statement.{statement}
+use Rattle.line.proofs.answering.put_saving.Tie as tie
 
 enum-known-answer : tie.Need-enum-known-answer
 enum-known-answer c = search needs

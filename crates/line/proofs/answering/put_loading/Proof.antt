@@ -1,13 +1,13 @@
--- `script::put_loading` meets its contract: the word and the number, or the refusal.
+-- `line::put_loading` meets its contract: the word and the number, or the refusal.
 use borrow.Author.Needs.{needs}
 use mathlib.Core.Path.{sym, ap}
 use native.Mathlib.Omega.{arith}
 use Rattle.rules.specs.Answers.{ofLoading}
 use Rattle.rules.specs.Words.{wordsOf}
 use Rattle.text.proofs.Putting.{puts-length}
-use Rattle.script.proofs.Printing.{words-as}
-use Rattle.script.proofs.performing.put_loading.Statement.{statement}
-use Rattle.script.proofs.performing.put_loading.Tie as tie
+use Rattle.line.proofs.Lines.{words-as}
+use Rattle.line.proofs.answering.put_loading.Statement.{statement}
+use Rattle.line.proofs.answering.put_loading.Tie as tie
 
 enum-known-answer : tie.Need-enum-known-answer
 enum-known-answer c = search needs
