@@ -95,6 +95,9 @@ module _ {l b : List ℕ} {start i : ℕ} {xs : List ℕ} where
       → PutsWithin (most + (k + 2)) l start (xs ++ spaced (n ∷ [])) c j
   within-first k n h p q = record { puts = puts-after (p .puts) q; room = omega (arith, p .room, q .ends, number-room k n h) }
 
+pub within-decimal : {l b : List ℕ} {start i : ℕ} (k n : ℕ) → n < 10 ^ suc k → Puts l start (decimal n) b i → PutsWithin (suc k) l start (decimal n) b i
+within-decimal k n h p = record { puts = p; room = omega (arith, p .ends, decimal-length k n h) }
+
 -- or a later one.
 pub within-spaced : {l b c : List ℕ} {start i j most : ℕ} (word ns : List ℕ) (k n : ℕ) → n < 10 ^ suc k → PutsWithin most l start (word ++ spaced ns) b i
     → Puts b i (spaced (n ∷ [])) c j → PutsWithin (most + (k + 2)) l start (word ++ spaced (ns ++ (n ∷ []))) c j
