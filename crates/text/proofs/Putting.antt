@@ -81,6 +81,10 @@ puts-number {l} {c = c} {start} {j = j} word ns n p q =
     subst (λ (x : List ℕ). Puts l start x c j) (append-assoc word (spaced ns) (spaced (n ∷ [])) ∙ ap (λ (x : List ℕ). word ++ x) (sym (spaced-append ns (n ∷ [])))) (puts-after p q)
 
 -- ---- and so many bytes at most
+-- The digits of a number below 10^(k+1).
+pub within-decimal : {l b : List ℕ} {start i : ℕ} (k n : ℕ) → n < 10 ^ suc k → Puts l start (decimal n) b i → PutsWithin (suc k) l start (decimal n) b i
+within-decimal k n h p = record { puts = p; room = omega (arith, p .ends, decimal-length k n h) }
+
 module _ {l b : List ℕ} {start i : ℕ} {xs : List ℕ} where
   -- What is put takes no more than it has;
   pub within-all : Puts l start xs b i → PutsWithin (length xs) l start xs b i
@@ -94,9 +98,6 @@ module _ {l b : List ℕ} {start i : ℕ} {xs : List ℕ} where
   pub within-first : {c : List ℕ} {most j : ℕ} (k n : ℕ) → n < 10 ^ suc k → PutsWithin most l start xs b i → Puts b i (spaced (n ∷ [])) c j
       → PutsWithin (most + (k + 2)) l start (xs ++ spaced (n ∷ [])) c j
   within-first k n h p q = record { puts = puts-after (p .puts) q; room = omega (arith, p .room, q .ends, number-room k n h) }
-
-pub within-decimal : {l b : List ℕ} {start i : ℕ} (k n : ℕ) → n < 10 ^ suc k → Puts l start (decimal n) b i → PutsWithin (suc k) l start (decimal n) b i
-within-decimal k n h p = record { puts = p; room = omega (arith, p .ends, decimal-length k n h) }
 
 -- or a later one.
 pub within-spaced : {l b c : List ℕ} {start i j most : ℕ} (word ns : List ℕ) (k n : ℕ) → n < 10 ^ suc k → PutsWithin most l start (word ++ spaced ns) b i
