@@ -81,6 +81,10 @@ puts-number {l} {c = c} {start} {j = j} word ns n p q =
     subst (λ (x : List ℕ). Puts l start x c j) (append-assoc word (spaced ns) (spaced (n ∷ [])) ∙ ap (λ (x : List ℕ). word ++ x) (sym (spaced-append ns (n ∷ [])))) (puts-after p q)
 
 -- ---- and so many bytes at most
+-- The digits of a number below 10^(k+1).
+pub within-decimal : {l b : List ℕ} {start i : ℕ} (k n : ℕ) → n < 10 ^ suc k → Puts l start (decimal n) b i → PutsWithin (suc k) l start (decimal n) b i
+within-decimal k n h p = record { puts = p; room = omega (arith, p .ends, decimal-length k n h) }
+
 module _ {l b : List ℕ} {start i : ℕ} {xs : List ℕ} where
   -- What is put takes no more than it has;
   pub within-all : Puts l start xs b i → PutsWithin (length xs) l start xs b i

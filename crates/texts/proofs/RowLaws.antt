@@ -97,7 +97,7 @@ row-first b bs (n ∷ ns) r =
     }
 
 -- So bytes are the row of no other numbers.
-pub spaced-unique : (ns ms : List ℕ) → spaced ns ≡ spaced ms → ns ≡ ms
+spaced-unique : (ns ms : List ℕ) → spaced ns ≡ spaced ms → ns ≡ ms
 unfolding spaced
 spaced-unique [] [] e = refl
 spaced-unique [] (m ∷ ms) e = let z : _≡_ {A = ℕ} 0 1 = cc in absurd (omega arith)
@@ -107,3 +107,6 @@ spaced-unique (n ∷ ns) (m ∷ ms) e =
     sym (values-spaced n ns)
     ∙ ap (λ (l : List ℕ). map value (split (byte " ") l .pieces ++ (split (byte " ") l .tail ∷ []))) rest
     ∙ values-spaced m ms
+
+pub row-unique : {bytes ns ms : List ℕ} → IsRow bytes ns → IsRow bytes ms → ns ≡ ms
+row-unique {bytes} {ns} {ms} r q = spaced-unique ns ms (sym (r .is) ∙ q .is)
