@@ -1,6 +1,7 @@
--- The checks of a handle.
-use Prim.Native.Nat.{ℕ}
-use mathlib.Core.Bool.{Bool, not}
+-- The handles of a schedule: what each has, and the checks of one.
+use Prim.Native.Nat.{ℕ, suc}
+use mathlib.Core.Bool.{Bool, not, cond}
+use mathlib.Core.List.{List, [], _∷_}
 use lib.Dec.{ltb}
 use Rattle.rules.specs.declared.Connection.{Connection}
 use Rattle.rules.specs.declared.Schedule.{Schedule}
@@ -21,3 +22,10 @@ isLive s h = connection s h .live
 -- 3: "handle not live"
 abbrev pub notLive : Schedule → ℕ → Bool
 notLive s h = not (isLive s h)
+
+-- Something for each live connection, handles rising, from handle h on.
+unfoldable pub eachLive {ℓ} : {A : Type ℓ} → (ℕ → Connection → A) → ℕ → List Connection → List A
+eachLive f h [] = []
+eachLive f h (c ∷ cs) =
+    let later = eachLive f (suc h) cs in
+    cond (c .live) (f h c ∷ later) later
