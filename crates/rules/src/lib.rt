@@ -4,24 +4,34 @@
 
 /// A block in slots and in µs, the guard in µs, and the list in blocks: specs/Time.
 pub const BLOCK_SLOTS: u32 = 6;
+
 pub const BLOCK_MICROS: u32 = 7500;
+
 pub const GUARD_MICROS: u32 = 2500;
+
 pub const LIST_BLOCKS: usize = 512;
 
 /// How many handles there are, and the largest k of a factor 2^k: specs/Ownership.
 pub const HANDLES: usize = 64;
+
 pub const LARGEST_K: u8 = 9;
 
 /// The depth of the tree: specs/Classes; and its bytes: specs/TreeBytes.
 pub const DEPTH: u32 = 9;
+
 pub const TREE_BYTES: usize = 128;
 
 /// The kind of each record of an image, and the size of its payload: specs/Form.
 pub const COUNT_KIND: u32 = 1;
+
 pub const COUNT_SIZE: u32 = 2;
+
 pub const CONNECTION_KIND: u32 = 2;
+
 pub const CONNECTION_SIZE: u32 = 14;
+
 pub const TREE_KIND: u32 = 3;
+
 pub const TREE_SIZE: u32 = 128;
 
 /// The line of an answer has so many bytes at most: specs/Words.
@@ -29,6 +39,7 @@ pub const LONGEST_ANSWER: usize = 28;
 
 /// What the command program takes and prints, in bytes: specs/Program.
 pub const MOST_INPUT: usize = 4096;
+
 pub const MOST_OUTPUT: usize = 16384;
 
 // ---- the schedule
