@@ -1,17 +1,17 @@
 -- The laws of the reading of an image's frame.
-use mathlib.Core.Path.{_≡_, refl, sym, ap, ap₂, _∙_, subst}
+use mathlib.Core.Path.{_≡_, refl, sym, ap, _∙_}
 use mathlib.Core.Bool.{Bool, true, false, _&&_, false≢true}
 use mathlib.Core.Logic.{by-cases}
 use mathlib.Core.List.{List, [], _∷_}
 use Prim.Native.Nat.{ℕ, suc, _+_, _-_, _<_, _≤_}
 use native.Mathlib.Decide.{decLe}
 use native.Mathlib.Omega.{arith}
-use lib.ListN.{length, getD, take, drop, replicate, length-drop}
+use lib.ListN.{length, getD, take, drop, length-drop}
 use lib.Seq.{drop-cons, drop-drop, drop-length}
 use Rattle.rules.specs.Ownership.{handles}
 use Rattle.rules.specs.Bytes.{littleNumber}
 use Rattle.rules.specs.Records.{piecesOf}
-use Rattle.rules.specs.Form.{Head, countKind, countSize, connectionKind, connectionSize, treeKind, treeSize, headed, form}
+use Rattle.rules.specs.Form.{Head, countKind, countSize, connectionKind, connectionSize, isConnection, treeKind, treeSize, isTree, headed, form}
 use Rattle.rules.specs.Framing.{countIn, recordsAre, recordsWrong, Framed}
 use Rattle.basics.proofs.BoolLaws.{both, is-false}
 use Rattle.basics.proofs.BytesLaws.{AllBytes, bytes-drop}
@@ -29,7 +29,7 @@ passed bytes at k s kind size next p ek es = (record { kind-is = p .0 .kind-is �
 
 -- What is asked for after the connections.
 abbrev treeForm : List (Head → Bool)
-treeForm = headed treeKind treeSize ∷ []
+treeForm = isTree ∷ []
 
 -- Of n records of connections, i are passed, and the cursor is after them.
 abbrev pub PassedSoFar : List ℕ → ℕ → ℕ → ℕ → ℕ → Type 0
@@ -82,7 +82,7 @@ module _ (bytes : List ℕ) (small : AllBytes bytes) where
     next-asked : n - i ≡ suc (n - (i + 1))
     next-asked = omega arith
 
-    begun : (later : List (Head → Bool)) → recordsAre (connectionsThen n later) (drop at bytes) ≡ recordsAre (headed connectionKind connectionSize ∷ connectionsThen (n - (i + 1)) later) (drop cursor bytes)
+    begun : (later : List (Head → Bool)) → recordsAre (connectionsThen n later) (drop at bytes) ≡ recordsAre (isConnection ∷ connectionsThen (n - (i + 1)) later) (drop cursor bytes)
     begun later = t later ∙ ap (λ (m : ℕ). recordsAre (connectionsThen m later) (drop cursor bytes)) next-asked
 
     pub connections-more : (next : ℕ) → Says bytes cursor connectionKind connectionSize × (next ≡ cursor + (4 + connectionSize)) → PassedSoFar bytes at n (i + 1) next

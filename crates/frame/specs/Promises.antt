@@ -10,7 +10,7 @@ use Rattle.rules.specs.declared.Frame.the-variants.{Counts, Wrong}
 use Rattle.rules.specs.Refusals.{number}
 use Rattle.rules.specs.Steps.{Step, gives, places, passes, refuses}
 use Rattle.rules.specs.Bytes.{littleNumber}
-use Rattle.rules.specs.Form.{Head, connectionKind, connectionSize, headed}
+use Rattle.rules.specs.Form.{Head, isConnection}
 use Rattle.rules.specs.Framing.{recordsAre, recordsWrong, Framed}
 use Rattle.frame.specs.declared.Header.{Header}
 use Rattle.frame.specs.declared.Header.the-variants.{Record, CutShort}
@@ -35,7 +35,7 @@ Passes bytes at kind size Missing = Says bytes at kind size → ⊥
 
 -- n records of connections are asked for, and others after them: it is up to those, from the next cursor on; or one of the n is not there.
 abbrev pub connectionsThen : ℕ → List (Head → Bool) → List (Head → Bool)
-connectionsThen n later = replicate n (headed connectionKind connectionSize) ++ later
+connectionsThen n later = replicate n isConnection ++ later
 
 abbrev pub PassesAll : List ℕ → ℕ → ℕ → After → Type 0
 PassesAll bytes at n (At next) = ((later : List (Head → Bool)) → recordsAre (connectionsThen n later) (drop at bytes) ≡ recordsAre later (drop next bytes)) × (next ≤ length bytes)

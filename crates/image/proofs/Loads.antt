@@ -3,7 +3,6 @@ use mathlib.Core.Path.{_≡_, sym, ap, ap₂, _∙_, subst}
 use mathlib.Core.Bool.{Bool, true, false}
 use mathlib.Core.List.{List}
 use Prim.Native.Nat.{ℕ, suc, _+_}
-use native.Mathlib.Omega.{arith}
 use lib.ListN.{length, take, drop}
 use Rattle.rules.specs.declared.Connection.{Connection}
 use Rattle.rules.specs.declared.Schedule.{Schedule}
@@ -18,7 +17,7 @@ use Rattle.rules.specs.Bytes.{same}
 use Rattle.rules.specs.Records.{begin, piecesOf}
 use Rattle.rules.specs.Framing.{recordsWrong, Framed}
 use Rattle.rules.specs.Fields.{treeIn}
-use Rattle.rules.specs.Load.{soundRecords, restored, connectionsOf, load}
+use Rattle.rules.specs.Load.{soundRecords, atHandles, connectionsOf, load}
 use Rattle.basics.proofs.BytesLaws.{AllBytes}
 use Rattle.images.proofs.ImageLaws.{load-good}
 use Rattle.images.proofs.FrameLaws.{connections-long, tree-place, tree-stands}
@@ -49,11 +48,11 @@ module _ (s : Schedule) (good : Good s) (bytes : List ℕ) (b : AllBytes bytes) 
       owned-twice r e q = loads r (e ∙ load-11 s bytes n f p (sym (t .says) ∙ q))
 
       module _ (q : x .apart ≡ true) where
-        tree-is : x .schedule .tree .bytes ≡ treeFor (restored (records bytes))
-        tree-is = schedule-tree (restored (records bytes)) (x .schedule) (restores-apart bytes x t q .0)
+        tree-is : x .schedule .tree .bytes ≡ treeFor (atHandles (records bytes))
+        tree-is = schedule-tree (atHandles (records bytes)) (x .schedule) (restores-apart bytes x t q .0)
 
         pub tree-long : length (x .schedule .tree .bytes) ≡ treeBytes
-        tree-long = ap {B = ℕ} length tree-is ∙ tree-for-long (restored (records bytes))
+        tree-long = ap {B = ℕ} length tree-is ∙ tree-for-long (atHandles (records bytes))
 
         -- The tree's record is the one after the connections'.
         end-is : x .end ≡ begin (piecesOf bytes) (suc n)

@@ -12,7 +12,7 @@ use Rattle.rules.specs.declared.Refusal.the-variants.{BufferShort}
 use Rattle.rules.specs.Ownership.{at, taken}
 use Rattle.rules.specs.Bytes.{little}
 use Rattle.rules.specs.TreeBytes.{treeBytes}
-use Rattle.rules.specs.Records.{written, joined}
+use Rattle.rules.specs.Records.{bytesOf, joined}
 use Rattle.rules.specs.Form.{countKind, countSize, connectionKind, connectionSize, treeKind, treeSize}
 use Rattle.rules.specs.Image.{countPiece, connectionPiece, connectionPieces, treePiece, pieces, image}
 use Rattle.rules.specs.Good.{Good, treeFor}
@@ -20,7 +20,7 @@ use Rattle.rules.specs.Refusals.{number}
 use Rattle.rules.specs.Answers.{refused, saved}
 use Rattle.rules.specs.Save.{Written, save}
 use Rattle.calls.proofs.EachLaws.{each-count}
-use Rattle.images.proofs.PieceLaws.{written-length, joined-append}
+use Rattle.images.proofs.PieceLaws.{record-length, joined-append}
 use Rattle.basics.proofs.StoreLaws.{put-after}
 use Rattle.blocks.proofs.TreeLaws.{tree-sized}
 use Rattle.images.proofs.ImageLaws.{connection-has, image-length}
@@ -50,8 +50,8 @@ module _ (l : List ℕ) (start : ℕ) where
   pub connection-put : (h : ℕ) (s : Connection) {b c d : List ℕ} → b ≡ sets l start (little 2 connectionSize ++ little 2 connectionKind)
       → c ≡ sets b (start + 4) (little 1 h ++ little 1 (s .k) ++ little 2 (s .anchor) ++ little 2 (s .length))
       → d ≡ sets c (start + 10) (little 2 (s .floor) ++ little 2 (s .ceiling) ++ little 4 (s .estimate))
-      → d ≡ sets l start (written (connectionPiece h s))
-  unfolding little written connectionPiece
+      → d ≡ sets l start (bytesOf (connectionPiece h s))
+  unfolding little bytesOf connectionPiece
   connection-put h s {b} {c} {d} p q r =
       let run = little 1 h ++ little 1 (s .k) ++ little 2 (s .anchor) ++ little 2 (s .length) in
       let share = little 2 (s .floor) ++ little 2 (s .ceiling) ++ little 4 (s .estimate) in
@@ -63,7 +63,7 @@ module _ (cs : List Connection) (h : ℕ) (here : h < length cs) (e : at cs h .l
   live-longer : length (joined (connectionPieces 0 (take (h + 1) cs))) ≡ length (joined (connectionPieces 0 (take h cs))) + (4 + connectionSize)
   live-longer =
       let r = connectionPiece h (at cs h) in
-      omega (arith, ap {B = ℕ} length (joined-live cs h here e) ∙ length-append (joined (connectionPieces 0 (take h cs))) (written r), written-length r, connection-has h (at cs h) .size-is)
+      omega (arith, ap {B = ℕ} length (joined-live cs h here e) ∙ length-append (joined (connectionPieces 0 (take h cs))) (bytesOf r), record-length r, connection-has h (at cs h) .size-is)
 
   pub live-room : length (joined (connectionPieces 0 (take h cs))) + (4 + connectionSize) ≤ length (joined (connectionPieces 0 cs))
   live-room = omega (arith, live-longer, joined-most cs (h + 1))
@@ -71,10 +71,10 @@ module _ (cs : List Connection) (h : ℕ) (here : h < length cs) (e : at cs h .l
 -- The records of the handles before h and the one of h, if it is live.
 module _ (l : List ℕ) (start : ℕ) (cs : List Connection) (h : ℕ) (here : h < length cs) {b : List ℕ} {next : ℕ}
     (p : b ≡ sets l start (joined (connectionPieces 0 (take h cs)))) (q : next ≡ start + length (joined (connectionPieces 0 (take h cs)))) where
-  pub live-put : at cs h .live ≡ true → {c : List ℕ} → c ≡ sets b next (written (connectionPiece h (at cs h)))
+  pub live-put : at cs h .live ≡ true → {c : List ℕ} → c ≡ sets b next (bytesOf (connectionPiece h (at cs h)))
       → (c ≡ sets l start (joined (connectionPieces 0 (take (h + 1) cs)))) × (next + (4 + connectionSize) ≡ start + length (joined (connectionPieces 0 (take (h + 1) cs))))
   live-put e {c} r = (
-    put-after l b c start next (joined (connectionPieces 0 (take h cs))) (written (connectionPiece h (at cs h))) p r q
+    put-after l b c start next (joined (connectionPieces 0 (take h cs))) (bytesOf (connectionPiece h (at cs h))) p r q
         ∙ ap (λ (x : List ℕ). sets l start x) (sym (joined-live cs h here e)),
     omega (arith, q, live-longer cs h here e),
   )
@@ -97,8 +97,8 @@ module _ (l : List ℕ) (start : ℕ) (tree : List ℕ) where
       put-after l b (set b (start + i) (getD tree i 0)) start (start + i) (take i tree) (getD tree i 0 ∷ []) p refl (ap (λ (k : ℕ). start + k) (sym n))
       ∙ rw e (ap (λ (x : List ℕ). sets l start x) (sym (take-suc tree i 0 here)))
 
-  pub tree-put : length tree ≡ treeBytes → {b c : List ℕ} → b ≡ sets l start (little 2 treeSize ++ little 2 treeKind) → c ≡ sets b (start + 4) tree → c ≡ sets l start (written (treeRecord tree))
-  unfolding written
+  pub tree-put : length tree ≡ treeBytes → {b c : List ℕ} → b ≡ sets l start (little 2 treeSize ++ little 2 treeKind) → c ≡ sets b (start + 4) tree → c ≡ sets l start (bytesOf (treeRecord tree))
+  unfolding bytesOf
   tree-put n {b} {c} p q =
       put-after l b c start (start + 4) (little 2 treeSize ++ little 2 treeKind) tree p q refl
       ∙ ap (λ (k : ℕ). sets l start (little 2 k ++ little 2 treeKind ++ tree)) (sym n)
@@ -106,19 +106,19 @@ module _ (l : List ℕ) (start : ℕ) (tree : List ℕ) where
 -- The whole image: the count, the connections, the tree.
 image-put : (l : List ℕ) (s : Schedule) {b c d e : List ℕ} {n next : ℕ}
     → n ≡ length (connectionPieces 0 (s .connections)) → b ≡ sets l 0 (little 2 countSize ++ little 2 countKind) → c ≡ sets b 4 (little countSize n)
-    → PutsConnections (4 + countSize) (s .connections) c d next → e ≡ sets d next (written (treePiece s))
+    → PutsConnections (4 + countSize) (s .connections) c d next → e ≡ sets d next (bytesOf (treePiece s))
     → e ≡ sets l 0 (image s)
-unfolding little written joined countPiece pieces image
+unfolding little bytesOf joined countPiece pieces image
 image-put l s {b} {c} {d} {e} {n} {next} m p q r u =
     let rs = connectionPieces 0 (s .connections) in
     let each = joined rs in
     let count = little 2 countSize ++ little 2 countKind ++ little countSize n in
     let x = put-after l b c 0 4 (little 2 countSize ++ little 2 countKind) (little countSize n) p q refl in
     let y = put-after l c d 0 (4 + countSize) count each x (r .bytes) refl in
-    let z = put-after l d e 0 next (count ++ each) (written (treePiece s)) y u (omega (arith, r .ends, length-append count each)) in
-    let ends : joined (rs ++ (treePiece s ∷ [])) ≡ each ++ written (treePiece s) =
-    joined-append rs (treePiece s ∷ []) ∙ ap (λ (w : List ℕ). each ++ w) (append-nil (written (treePiece s))) in
-    z ∙ ap (λ (w : List ℕ). sets l 0 (count ++ w)) (sym ends) ∙ ap (λ (k : ℕ). sets l 0 (written (countPiece k) ++ joined (rs ++ (treePiece s ∷ [])))) m
+    let z = put-after l d e 0 next (count ++ each) (bytesOf (treePiece s)) y u (omega (arith, r .ends, length-append count each)) in
+    let ends : joined (rs ++ (treePiece s ∷ [])) ≡ each ++ bytesOf (treePiece s) =
+    joined-append rs (treePiece s ∷ []) ∙ ap (λ (w : List ℕ). each ++ w) (append-nil (bytesOf (treePiece s))) in
+    z ∙ ap (λ (w : List ℕ). sets l 0 (count ++ w)) (sym ends) ∙ ap (λ (k : ℕ). sets l 0 (bytesOf (countPiece k) ++ joined (rs ++ (treePiece s ∷ [])))) m
 
 -- ---- the exits of `save`
 module _ (s : Schedule) (good : Good s) (l : List ℕ) {n size : ℕ} (m : n ≡ length (connectionPieces 0 (s .connections)))
@@ -130,10 +130,10 @@ module _ (s : Schedule) (good : Good s) (l : List ℕ) {n size : ℕ} (m : n ≡
   too-short h = save-short s l (omega (arith, size-is))
 
   pub image-saved : size ≤ length l → {b c d f : List ℕ} {next : ℕ} → b ≡ sets l 0 (little 2 countSize ++ little 2 countKind) → c ≡ sets b 4 (little countSize n)
-      → PutsConnections (4 + countSize) (s .connections) c d next → f ≡ sets d next (written (treeRecord (s .tree .bytes)))
+      → PutsConnections (4 + countSize) (s .connections) c d next → f ≡ sets d next (bytesOf (treeRecord (s .tree .bytes)))
       → _≡_ {A = Written} (record { answer = saved size; buffer = f }) (save s l)
   unfolding treePiece
   image-saved h {b} {c} {d} {f} {next} p q r u =
-      let t : f ≡ sets d next (written (treePiece s)) = u ∙ ap (λ (x : List ℕ). sets d next (written (treeRecord x))) (good .hasTree) in
+      let t : f ≡ sets d next (bytesOf (treePiece s)) = u ∙ ap (λ (x : List ℕ). sets d next (bytesOf (treeRecord x))) (good .hasTree) in
       ap₂ (λ (k : ℕ) (x : List ℕ). record { answer = saved k; buffer = x }) size-is (image-put l s m p q r t)
       ∙ save-written s l (omega (arith, size-is))

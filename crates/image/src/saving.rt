@@ -6,7 +6,7 @@ ghost use lib.Seq.{sets};
 ghost use Rattle.rules.specs.Ownership.{handles};
 ghost use Rattle.rules.specs.TreeBytes.{treeBytes};
 ghost use Rattle.rules.specs.Good.{Good};
-ghost use Rattle.rules.specs.Records.{written, joined};
+ghost use Rattle.rules.specs.Records.{bytesOf, joined};
 ghost use Rattle.rules.specs.Form.{treeSize};
 ghost use Rattle.rules.specs.Image.{connectionPieces};
 ghost use Rattle.image.specs.Promises.{Saves, PutsConnections, treeRecord};
@@ -58,7 +58,7 @@ fn put_connections(buffer: &mut [u8], at: usize, connections: [Connection; HANDL
 
 fn put_tree(buffer: &mut [u8], at: usize, tree: &[u8; TREE_BYTES])
     requires { ⌜ (at + (4 + treeSize) ≤ length (now buffer)) × (length (now tree) ≡ treeBytes) ⌝ }
-    ensures { λ _. ⌜ now (buffer .exit) ≡ sets (now (buffer .entry)) at (written (treeRecord (now (tree .entry)))) ⌝ }
+    ensures { λ _. ⌜ now (buffer .exit) ≡ sets (now (buffer .entry)) at (bytesOf (treeRecord (now (tree .entry)))) ⌝ }
 {
     put_header(buffer, at, TREE_SIZE, TREE_KIND);
     for i in 0..TREE_BYTES {

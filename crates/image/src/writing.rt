@@ -6,7 +6,7 @@ ghost use lib.ListN.{length};
 ghost use lib.Seq.{sets};
 ghost use Rattle.rules.specs.Ownership.{handles};
 ghost use Rattle.rules.specs.Bytes.{little};
-ghost use Rattle.rules.specs.Records.{written};
+ghost use Rattle.rules.specs.Records.{bytesOf};
 ghost use Rattle.rules.specs.Form.{connectionSize};
 ghost use Rattle.rules.specs.Image.{connectionPiece};
 use codec::put_number;
@@ -56,7 +56,7 @@ fn put_share(buffer: &mut [u8], at: usize, c: Connection)
 // The record of a connection.
 pub fn put_connection(buffer: &mut [u8], at: usize, handle: usize, c: Connection)
     requires { ⌜ (at + (4 + connectionSize) ≤ length (now buffer)) × (handle < handles) ⌝ }
-    ensures { λ _. ⌜ now (buffer .exit) ≡ sets (now (buffer .entry)) at (written (connectionPiece handle c)) ⌝ }
+    ensures { λ _. ⌜ now (buffer .exit) ≡ sets (now (buffer .entry)) at (bytesOf (connectionPiece handle c)) ⌝ }
 {
     put_header(buffer, at, CONNECTION_SIZE, CONNECTION_KIND);
     put_run(buffer, at + 4, handle, c);

@@ -9,7 +9,7 @@ use lib.Dec.{eqb}
 use lib.ListN.{length, replicate}
 use borrow.Author.Tests.{eq-eqb, ne-eqb, eqb-true}
 use Rattle.rules.specs.Records.{Piece}
-use Rattle.rules.specs.Form.{Head, headOf, countKind, countSize, connectionKind, connectionSize, treeKind, treeSize, headed, form, formed}
+use Rattle.rules.specs.Form.{Head, headOf, headed, countKind, countSize, isCount, connectionKind, connectionSize, isConnection, treeKind, treeSize, isTree, form, formed}
 use Rattle.rules.specs.Fields.{connectionsIn, treeIn}
 use Rattle.basics.proofs.BoolLaws.{both}
 use Rattle.images.proofs.PieceLaws.{Each}
@@ -63,17 +63,17 @@ one-more n r rs c w =
     }
 
 abbrev restForm : ℕ → List (Head → Bool)
-restForm n = replicate n (headed connectionKind connectionSize) ++ (headed treeKind treeSize ∷ [])
+restForm n = replicate n isConnection ++ (isTree ∷ [])
 
 rest-of : (n : ℕ) (rs : List Piece) → formed (restForm n) (map headOf rs) ≡ true → Rest n rs
 unfolding formed
 rest-of zero [] e = absurd (false≢true e)
 rest-of zero (r ∷ []) e =
-    record { each = []; last = r; whole = refl; number = refl; connections = tt; ends = headed-exactly treeKind treeSize (headOf r) .0 (both (headed treeKind treeSize (headOf r)) true e .0) }
-rest-of zero (r ∷ r′ ∷ rs) e = absurd (false≢true (both (headed treeKind treeSize (headOf r)) false e .1))
+    record { each = []; last = r; whole = refl; number = refl; connections = tt; ends = headed-exactly treeKind treeSize (headOf r) .0 (both (isTree (headOf r)) true e .0) }
+rest-of zero (r ∷ r′ ∷ rs) e = absurd (false≢true (both (isTree (headOf r)) false e .1))
 rest-of (suc n) [] e = absurd (false≢true e)
 rest-of (suc n) (r ∷ rs) e =
-    let p = both (headed connectionKind connectionSize (headOf r)) (formed (restForm n) (map headOf rs)) e in
+    let p = both (isConnection (headOf r)) (formed (restForm n) (map headOf rs)) e in
     one-more n r rs (headed-exactly connectionKind connectionSize (headOf r) .0 (p .0)) (rest-of n rs (p .1))
 
 rest-formed : (each : List Piece) (last : Piece) → Each IsConnection each → Has treeKind treeSize (headOf last) → formed (restForm (length each)) (map headOf (each ++ (last ∷ []))) ≡ true
@@ -86,7 +86,7 @@ pub form-parts : (n : ℕ) (rs : List Piece) → formed (form n) (map headOf rs)
 unfolding formed
 form-parts n [] e = absurd (false≢true e)
 form-parts n (r ∷ rs) e =
-    let p = both (headed countKind countSize (headOf r)) (formed (restForm n) (map headOf rs)) e in
+    let p = both (isCount (headOf r)) (formed (restForm n) (map headOf rs)) e in
     let w = rest-of n rs (p .1) in
     record {
       first = r;

@@ -1,22 +1,22 @@
 -- The laws of check 9: one record after the other, and what framed bytes are.
 use mathlib.Core.Path.{_≡_, refl, sym, ap, ap₂, _∙_, subst}
-use mathlib.Core.Bool.{Bool, true, false, _&&_, not, false≢true}
+use mathlib.Core.Bool.{Bool, true, false, _&&_, not}
 use mathlib.Core.List.{List, [], _∷_, _++_, map}
-use Prim.Native.Nat.{ℕ, zero, suc, _+_, _^_, _<_, _≤_}
+use Prim.Native.Nat.{ℕ, zero, suc, _+_, _<_, _≤_}
 use native.Mathlib.Omega.{arith}
 use lib.Dec.{leb}
-use lib.ListN.{length, getD, take, drop, length-append, length-take, length-drop, take-append-drop, List·getD-append}
+use lib.ListN.{length, take, drop, length-append, length-take, length-drop, take-append-drop, List·getD-append}
 use lib.Seq.{take-add, take-all, getD-append-seam}
 use borrow.Author.Tests.{le-leb, leb-true, eq-eqb, not-false}
 use Rattle.rules.specs.Ownership.{handles}
 use Rattle.rules.specs.Bytes.{little, littleNumber, same}
-use Rattle.rules.specs.Records.{Piece, written, joined, begin, nth, piecesIn, piecesOf}
+use Rattle.rules.specs.Records.{Piece, bytesOf, joined, begin, nth, piecesIn, piecesOf}
 use Rattle.rules.specs.Form.{Head, headOf, connectionSize, treeSize, form, formed}
 use Rattle.rules.specs.Framing.{countIn, recordsAre, recordsWrong, Framed}
 use Rattle.rules.specs.Fields.{connectionsIn, treeIn}
 use Rattle.basics.proofs.BoolLaws.{both, is-false}
 use Rattle.basics.proofs.BytesLaws.{AllBytes, bytes-take, bytes-drop, little-number, number-lt, number-little, same-exactly}
-use Rattle.images.proofs.PieceLaws.{written-length, each-nth, pieces-small, begin-next, begin-here, stands-whole, stands-size, stands-part}
+use Rattle.images.proofs.PieceLaws.{record-length, each-nth, pieces-small, begin-next, begin-here, stands-whole, stands-size, stands-part}
 use Rattle.images.proofs.FormLaws.{IsConnection, Parts, form-parts, parts-form, connections-inside, tree-inside}
 
 -- ---- the record that bytes begin with
@@ -35,8 +35,8 @@ abbrev pieceFrom : List ℕ → Piece
 pieceFrom d = record { kind = littleNumber (take 2 (drop 2 d)); payload = take (littleNumber (take 2 d)) (drop 4 d) }
 
 -- It and what is after it are the bytes.
-begins : (d : List ℕ) → AllBytes d → 4 + headFrom d .size ≤ length d → written (pieceFrom d) ++ drop (4 + headFrom d .size) d ≡ d
-unfolding written
+begins : (d : List ℕ) → AllBytes d → 4 + headFrom d .size ≤ length d → bytesOf (pieceFrom d) ++ drop (4 + headFrom d .size) d ≡ d
+unfolding bytesOf
 begins d h l =
     let size = headFrom d .size in
     let kind = headFrom d .kind in
@@ -100,21 +100,21 @@ module _ (d : List ℕ) (small : AllBytes d) (asked : Head → Bool) (later : Li
       let rest = drop (4 + headFrom d .size) d in
       let len : length (r .payload) ≡ headFrom d .size = simp (length-take, length-drop) (omega arith) in
       let head : headOf r ≡ headFrom d = λ i. record { kind = r .kind; size = len i } in
-      let after : same (written r ++ joined (piecesOf rest)) d ≡ same (joined (piecesOf rest)) rest =
-      ap (same (written r ++ joined (piecesOf rest))) (sym (begins d small l)) ∙ same-append (written r) (joined (piecesOf rest)) rest in
+      let after : same (bytesOf r ++ joined (piecesOf rest)) d ≡ same (joined (piecesOf rest)) rest =
+      ap (same (bytesOf r ++ joined (piecesOf rest))) (sym (begins d small l)) ∙ same-append (bytesOf r) (joined (piecesOf rest)) rest in
       ap (λ (rs : List Piece). same (joined rs) d && formed (asked ∷ later) (map headOf rs)) (pieces-first d l)
       ∙ ap₂ (λ (v : Bool) (h : Head). v && (asked h && formed later (map headOf (piecesOf rest)))) after head
       ∙ swap (same (joined (piecesOf rest)) rest) (asked (headFrom d)) (formed later (map headOf (piecesOf rest)))
 
 -- Where records are the bytes, the first is whole.
 whole-first : (b : ℕ) (bs : List ℕ) → AllBytes (b ∷ bs) → joined (piecesOf (b ∷ bs)) ≡ b ∷ bs → 4 + headFrom (b ∷ bs) .size ≤ length (b ∷ bs)
-unfolding piecesOf piecesIn joined written
+unfolding piecesOf piecesIn joined bytesOf
 whole-first b bs small e =
     let d = b ∷ bs in
     let r = pieceFrom d in
     let size = headFrom d .size in
     let rest = joined (piecesIn (length bs) (drop (4 + size) d)) in
-    let long : length d ≡ 4 + length (r .payload) + length rest = omega (arith, ap {B = ℕ} length e, length-append (written r) rest, written-length r) in
+    let long : length d ≡ 4 + length (r .payload) + length rest = omega (arith, ap {B = ℕ} length e, length-append (bytesOf r) rest, record-length r) in
     let two : length (take 2 d) ≡ 2 = simp length-take (omega arith) in
     let fits : size < 65536 = omega (arith, rw two at (number-lt (take 2 d) (bytes-take 2 d small))) in
     let most : length (r .payload) ≤ size = simp length-take (omega arith) in
@@ -167,7 +167,7 @@ framed-exactly bytes n f =
 
 -- Each record stands where it begins, and says where the next does.
 module _ (bytes : List ℕ) (n : ℕ) (f : Framed bytes n) (small : AllBytes bytes) where
-  framed-stands : (i : ℕ) → i < length (piecesOf bytes) → drop (begin (piecesOf bytes) i) bytes ≡ written (nth (piecesOf bytes) i) ++ joined (drop (suc i) (piecesOf bytes))
+  framed-stands : (i : ℕ) → i < length (piecesOf bytes) → drop (begin (piecesOf bytes) i) bytes ≡ bytesOf (nth (piecesOf bytes) i) ++ joined (drop (suc i) (piecesOf bytes))
   framed-stands i l = ap (λ (b : List ℕ). drop (begin (piecesOf bytes) i) b) (sym (framed-exactly bytes n f .records)) ∙ begin-here (piecesOf bytes) i l
 
   framed-next : (i : ℕ) → i < length (piecesOf bytes) → begin (piecesOf bytes) (suc i) ≡ begin (piecesOf bytes) i + (4 + littleNumber (take 2 (drop (begin (piecesOf bytes) i) bytes)))
@@ -204,9 +204,9 @@ module _ (bytes : List ℕ) (n : ℕ) (f : Framed bytes n) (small : AllBytes byt
         ∙ List·getD-append (p .each) (p .last ∷ []) _ i (omega (arith, p .number))
         ∙ ap (λ (rs : List Piece). nth rs i) (sym (connections-inside n (piecesOf bytes) p))
 
-    pub connection-stands : drop (begin (piecesOf bytes) (suc i)) bytes ≡ written (nth (connectionsIn (piecesOf bytes)) i) ++ joined (drop (suc (suc i)) (piecesOf bytes))
+    pub connection-stands : drop (begin (piecesOf bytes) (suc i)) bytes ≡ bytesOf (nth (connectionsIn (piecesOf bytes)) i) ++ joined (drop (suc (suc i)) (piecesOf bytes))
     connection-stands =
-        framed-stands (suc i) (omega (arith, pieces-long)) ∙ ap (λ (r : Piece). written r ++ joined (drop (suc (suc i)) (piecesOf bytes))) nth-connection
+        framed-stands (suc i) (omega (arith, pieces-long)) ∙ ap (λ (r : Piece). bytesOf r ++ joined (drop (suc (suc i)) (piecesOf bytes))) nth-connection
 
     pub connection-sized : length (nth (connectionsIn (piecesOf bytes)) i .payload) ≡ connectionSize
     connection-sized =
@@ -225,25 +225,24 @@ module _ (bytes : List ℕ) (n : ℕ) (f : Framed bytes n) (small : AllBytes byt
       ∙ ap (λ (m : ℕ). nth (p .each ++ (p .last ∷ [])) m) (sym (p .number))
       ∙ getD-append-seam (p .each) (p .last) [] _
 
+  tree-size : length (nth (piecesOf bytes) (suc n) .payload) ≡ treeSize
+  tree-size = ap (λ (r : Piece). length (r .payload)) nth-tree ∙ framed-exactly bytes n f .parts .ends .size-is
+
   pub tree-place : begin (piecesOf bytes) (suc n) + 4 + treeSize ≡ length bytes
   tree-place =
       let rs = piecesOf bytes in
-      let p = framed-exactly bytes n f .parts in
-      let size : length (nth rs (suc n) .payload) ≡ treeSize = ap (λ (r : Piece). length (r .payload)) nth-tree ∙ p .ends .size-is in
       let end : begin rs (suc (suc n)) ≡ length bytes = ap (λ (xs : List Piece). length (joined xs)) (take-all (suc (suc n)) rs (omega (arith, pieces-long))) ∙ ap {B = ℕ} length (framed-exactly bytes n f .records) in
-      omega (arith, begin-next rs (suc n) (omega (arith, pieces-long)), size, end)
+      omega (arith, begin-next rs (suc n) (omega (arith, pieces-long)), tree-size, end)
 
   pub tree-stands : take treeSize (drop (begin (piecesOf bytes) (suc n) + 4) bytes) ≡ treeIn (piecesOf bytes)
   tree-stands =
       let rs = piecesOf bytes in
-      let p = framed-exactly bytes n f .parts in
-      let size : length (nth rs (suc n) .payload) ≡ treeSize = ap (λ (r : Piece). length (r .payload)) nth-tree ∙ p .ends .size-is in
       let e : begin rs (suc n) + 4 ≡ begin rs (suc n) + 4 + 0 = omega arith in
       ap (λ (k : ℕ). take treeSize (drop k bytes)) e
-      ∙ stands-part bytes (begin rs (suc n)) (nth rs (suc n)) (joined (drop (suc (suc n)) rs)) (framed-stands (suc n) (omega (arith, pieces-long))) 0 treeSize (omega (arith, size))
-      ∙ take-all treeSize (nth rs (suc n) .payload) (omega (arith, size))
+      ∙ stands-part bytes (begin rs (suc n)) (nth rs (suc n)) (joined (drop (suc (suc n)) rs)) (framed-stands (suc n) (omega (arith, pieces-long))) 0 treeSize (omega (arith, tree-size))
+      ∙ take-all treeSize (nth rs (suc n) .payload) (omega (arith, tree-size))
       ∙ ap (λ (r : Piece). r .payload) nth-tree
-      ∙ sym (tree-inside n rs p)
+      ∙ sym (tree-inside n rs (framed-exactly bytes n f .parts))
 
 -- ---- the answers of check 9, by the count
 module _ (bytes : List ℕ) (n : ℕ) (c : countIn (piecesOf bytes) ≡ n) where

@@ -5,10 +5,9 @@ use mathlib.Core.Logic.{_↔_}
 use mathlib.Core.List.{List, [], _∷_, _++_, map, append-nil, append-assoc}
 use Prim.Native.Nat.{ℕ, zero, suc, _+_, _-_, _*_, _<_, _≤_}
 use native.Mathlib.Omega.{arith}
-use lib.Dec.{leb}
 use lib.ListN.{length, set, replicate, length-append, length-replicate, replicate-append-replicate}
 use lib.Seq.{set-at}
-use borrow.Author.Tests.{le-leb, leb-true, eq-eqb, ne-eqb, not-false}
+use borrow.Author.Tests.{not-false}
 use Rattle.rules.specs.declared.Connection.{Connection}
 use Rattle.rules.specs.declared.Schedule.{Schedule}
 use Rattle.rules.specs.Ownership.{handles, nobody, at, owns, taken, ownedTwice}
@@ -18,12 +17,12 @@ use Rattle.rules.specs.Refusals.{number}
 use Rattle.rules.specs.Answers.{Outcome, refusing, loaded}
 use Rattle.rules.specs.Handles.{eachLive}
 use Rattle.rules.specs.Bytes.{little, littleNumber, same}
-use Rattle.rules.specs.Records.{Piece, written, joined, piecesOf}
+use Rattle.rules.specs.Records.{Piece, bytesOf, joined, piecesOf}
 use Rattle.rules.specs.Form.{headOf, countKind, countSize, connectionKind, connectionSize, treeKind, treeSize, form, formed}
 use Rattle.rules.specs.Image.{countPiece, connectionPiece, connectionPieces, treePiece, pieces, image, IsImage}
-use Rattle.rules.specs.Framing.{countIn, recordsWrong, Framed}
+use Rattle.rules.specs.Framing.{countIn, Framed}
 use Rattle.rules.specs.Fields.{connectionsIn, handleIn, connectionIn, treeIn}
-use Rattle.rules.specs.Load.{soundRecords, numbersUnsound, restored, connectionsOf, loadChecks, loadDone, load}
+use Rattle.rules.specs.Load.{soundRecords, numbersUnsound, atHandles, connectionsOf, loadChecks, loadDone, load}
 use Rattle.basics.proofs.BoolLaws.{both}
 use Rattle.basics.proofs.BelowLaws.{any-ext}
 use Rattle.blocks.proofs.TreeLaws.{tree-sized, tree-ext}
@@ -33,9 +32,9 @@ use Rattle.calls.proofs.RefusalLaws.{Passed, decided-cases, decided-passed}
 use Rattle.calls.proofs.EachLaws.{liveCount, count-most, each-count}
 use Rattle.basics.proofs.BytesLaws.{AllBytes, bytes-append, little-bytes, little-number, number-little, same-exactly}
 use Rattle.images.proofs.RisingLaws.{soundFrom, sound-from, rising-exactly}
-use Rattle.images.proofs.PieceLaws.{Fitting, Each, written-length, joined-append, pieces-joined, pieces-bytes, numbers-narrow, connection-read, connection-written}
+use Rattle.images.proofs.PieceLaws.{Fitting, Each, record-length, joined-append, pieces-joined, pieces-bytes, numbers-narrow, connection-read, connection-written}
 use Rattle.images.proofs.FormLaws.{Has, IsConnection, Parts, parts-form, connections-inside, tree-inside}
-use Rattle.images.proofs.FrameLaws.{FramedSays, framed-exactly, framed-of}
+use Rattle.images.proofs.FrameLaws.{framed-exactly, framed-of}
 
 -- The same connections, with every slot that is not live set to zeros.
 unfoldable pub cleared : List Connection → List Connection
@@ -148,7 +147,7 @@ pieces-formed s = parts-form (liveCount (s .connections)) (pieces s) (pieces-par
 joined-length : (rs : List Piece) → Each IsConnection rs → length (joined rs) ≡ (4 + connectionSize) * length rs
 unfolding joined
 joined-length [] e = refl
-joined-length (r ∷ rs) e = omega (arith, length-append (written r) (joined rs), written-length r, e .0 .size-is, joined-length rs (e .1))
+joined-length (r ∷ rs) e = omega (arith, length-append (bytesOf r) (joined rs), record-length r, e .0 .size-is, joined-length rs (e .1))
 
 pub connections-length : (h : ℕ) (cs : List Connection) → length (joined (connectionPieces h cs)) ≡ (4 + connectionSize) * length (connectionPieces h cs)
 connections-length h cs = joined-length (connectionPieces h cs) (each-connection IsConnection connection-has h cs)
@@ -162,14 +161,14 @@ image-length s =
     let tree = treePiece s ∷ [] in
     omega (
       arith,
-      length-append (written (countPiece (length each))) (joined (each ++ tree)),
-      written-length (countPiece (length each)),
+      length-append (bytesOf (countPiece (length each))) (joined (each ++ tree)),
+      record-length (countPiece (length each)),
       p .counts .size-is,
       ap {B = ℕ} length (joined-append each tree) ∙ length-append (joined each) (joined tree),
       connections-length 0 (s .connections),
       p .number,
-      length-append (written (treePiece s)) [],
-      written-length (treePiece s),
+      length-append (bytesOf (treePiece s)) [],
+      record-length (treePiece s),
       p .ends .size-is,
     )
 
@@ -178,14 +177,14 @@ pub image-bounds : (s : Schedule) → length (s .connections) ≡ handles → (1
 image-bounds s l = (omega (arith, image-length s), omega (arith, image-length s, count-most (s .connections), l))
 
 -- ---- an image is bytes
-written-bytes : (r : Piece) → AllBytes (r .payload) → AllBytes (written r)
-unfolding written
-written-bytes r h = bytes-append (little 2 (length (r .payload)) ++ little 2 (r .kind)) (r .payload) (bytes-append (little 2 (length (r .payload))) (little 2 (r .kind)) (little-bytes 2 _) (little-bytes 2 _)) h
+record-bytes : (r : Piece) → AllBytes (r .payload) → AllBytes (bytesOf r)
+unfolding bytesOf
+record-bytes r h = bytes-append (little 2 (length (r .payload)) ++ little 2 (r .kind)) (r .payload) (bytes-append (little 2 (length (r .payload))) (little 2 (r .kind)) (little-bytes 2 _) (little-bytes 2 _)) h
 
 joined-bytes : (rs : List Piece) → Each (λ r. AllBytes (r .payload)) rs → AllBytes (joined rs)
 unfolding joined
 joined-bytes [] e = λ i. omega arith
-joined-bytes (r ∷ rs) e = bytes-append (written r) (joined rs) (written-bytes r (e .0)) (joined-bytes rs (e .1))
+joined-bytes (r ∷ rs) e = bytes-append (bytesOf r) (joined rs) (record-bytes r (e .0)) (joined-bytes rs (e .1))
 
 -- Bytes, as a record: so that `then` reads off its list.
 record Bytes (s : List ℕ) : Type 0 where
@@ -244,15 +243,15 @@ slots-set : (h : ℕ) (c : Connection) (cs : List Connection) → set (replicate
 slots-set h c cs = ap (λ (l : List Connection). set l h c) (slots-shift h cs) ∙ set-at (replicate h nobody) nobody cs c h (length-replicate h nobody)
 
 -- After h free slots: the records of the connections from handle h on give these connections again.
-restored-cleared : (h : ℕ) (cs : List Connection) → h + length cs ≡ handles → AllNumbers cs → restored (connectionPieces h cs) ≡ replicate h nobody ++ cleared cs
-unfolding restored eachLive cleared
+restored-cleared : (h : ℕ) (cs : List Connection) → h + length cs ≡ handles → AllNumbers cs → atHandles (connectionPieces h cs) ≡ replicate h nobody ++ cleared cs
+unfolding atHandles eachLive cleared
 restored-cleared h [] l n =
-    let e : 64 ≡ h = omega arith in
+    let e : handles ≡ h = omega arith in
     ap (λ (m : ℕ). replicate m nobody) e ∙ sym (append-nil (replicate h nobody))
 restored-cleared h (c ∷ cs) l n = go (c .live) refl (restored-cleared (suc h) cs (omega arith) (λ j. n (suc j)))
   where
-    go : (v : Bool) → c .live ≡ v → restored (connectionPieces (suc h) cs) ≡ replicate (suc h) nobody ++ cleared cs
-        → restored (cond v (connectionPiece h c ∷ connectionPieces (suc h) cs) (connectionPieces (suc h) cs)) ≡ replicate h nobody ++ cond v c nobody ∷ cleared cs
+    go : (v : Bool) → c .live ≡ v → atHandles (connectionPieces (suc h) cs) ≡ replicate (suc h) nobody ++ cleared cs
+        → atHandles (cond v (connectionPiece h c ∷ connectionPieces (suc h) cs) (connectionPieces (suc h) cs)) ≡ replicate h nobody ++ cond v c nobody ∷ cleared cs
     go true q later =
         let r = live-read h c (omega arith) (n 0 q) q in
         ap (λ (l : List Connection). set l (handleIn (connectionPiece h c)) (connectionIn (connectionPiece h c))) later
@@ -284,7 +283,7 @@ pieces-sound h g (c ∷ cs) m l n = go (c .live) refl (λ j k. pieces-sound j (s
 record Laid (h : ℕ) (rs : List Piece) : Type 0 where
   slots : List Connection
   long : h + length slots ≡ handles
-  placed : restored rs ≡ replicate h nobody ++ slots
+  placed : atHandles rs ≡ replicate h nobody ++ slots
   again : connectionPieces h slots ≡ rs
   numbers : allSound slots ≡ true
 
@@ -313,11 +312,11 @@ laid-from h g rs l w =
     }
 
 laid-none : Laid handles []
-unfolding restored eachLive allSound
+unfolding atHandles eachLive allSound
 laid-none = record { slots = []; long = refl; placed = refl; again = refl; numbers = refl }
 
 laid-one : (r : Piece) (rs : List Piece) → IsConnection r → AllBytes (r .payload) → soundNumbers (connectionIn r) ≡ true → Laid (suc (handleIn r)) rs → Laid (handleIn r) (r ∷ rs)
-unfolding restored eachLive allSound
+unfolding atHandles eachLive allSound
 laid-one r rs c b n w =
     record {
       slots = connectionIn r ∷ w .slots;
@@ -391,7 +390,7 @@ module _ (s : Schedule) (long : length (s .connections) ≡ handles) (isSound : 
 
   read-connections : connectionsOf (pieces s) ≡ cleared (s .connections)
   unfolding connectionsOf
-  read-connections = ap restored read-each ∙ restored-cleared 0 (s .connections) (omega arith) numbered
+  read-connections = ap atHandles read-each ∙ restored-cleared 0 (s .connections) (omega arith) numbered
 
   pieces-accepted : Accepted (image s) (pieces s)
   unfolding image sound soundConnections
@@ -446,7 +445,7 @@ accepted-restores bytes rs b a =
     let held = subst (Each (λ r. AllBytes (r .payload))) (p .whole) b in
     let inner : connectionsIn rs ≡ each = connections-inside n rs p in
     let w = laid each 0 (omega arith) (sym (sound-from each) ∙ ap soundRecords (sym inner) ∙ a .rising) (p .connections) (each-left (λ r. AllBytes (r .payload)) each (last ∷ []) (held .1)) in
-    let slots : cs ≡ w .slots = ap restored inner ∙ w .placed in
+    let slots : cs ≡ w .slots = ap atHandles inner ∙ w .placed in
     let again : connectionPieces 0 cs ≡ each = ap (connectionPieces 0) slots ∙ w .again in
     let says : length each ≡ littleNumber (first .payload) = p .number ∙ ap countIn (p .whole) in
     let count : little 2 (length each) ≡ first .payload = ap₂ little (sym (p .counts .size-is)) says ∙ number-little (first .payload) (held .0) in
@@ -508,10 +507,10 @@ set-zeros (x ∷ cs) zero c l z (suc h) e = z (suc h) e
 set-zeros (x ∷ cs) (suc g) c l z zero e = z 0 e
 set-zeros (x ∷ cs) (suc g) c l z (suc h) e = set-zeros cs g c l (λ j. z (suc j)) h e
 
-restored-zero : (rs : List Piece) (h : ℕ) → at (restored rs) h .live ≡ false → at (restored rs) h ≡ nobody
-unfolding restored
+restored-zero : (rs : List Piece) (h : ℕ) → at (atHandles rs) h .live ≡ false → at (atHandles rs) h ≡ nobody
+unfolding atHandles
 restored-zero [] h e = at-free handles h
-restored-zero (r ∷ rs) h e = set-zeros (restored rs) (handleIn r) (connectionIn r) refl (restored-zero rs) h e
+restored-zero (r ∷ rs) h e = set-zeros (atHandles rs) (handleIn r) (connectionIn r) refl (restored-zero rs) h e
 
 -- After a load a free slot is all zeros, where it was before.
 pub load-zero : (s : Schedule) → FreeSlotsZero s → (bytes : List ℕ) → FreeSlotsZero (load s bytes .schedule)

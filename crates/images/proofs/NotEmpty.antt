@@ -10,7 +10,7 @@ use Rattle.rules.specs.declared.Connection.{Connection}
 use Rattle.rules.specs.declared.Schedule.{Schedule}
 use Rattle.rules.specs.Below.{tabulate}
 use Rattle.rules.specs.Ownership.{handles, nobody, taken}
-use Rattle.rules.specs.TreeBytes.{bitAt}
+use Rattle.rules.specs.TreeBytes.{treeBytes, bitAt}
 use Rattle.rules.specs.Sound.{soundConnections, sound}
 use Rattle.rules.specs.Good.{Good, treeFor, fresh, withConnections, withConnection}
 use Rattle.rules.specs.Nodes.{nodeBit}
@@ -57,10 +57,10 @@ pub flipped-is-not-good : (s : Schedule) → Good s → (bytes : List ℕ) (n : 
 flipped-is-not-good s g bytes n differs f = differs (ap (λ (l : List ℕ). bitAt l n) (f .hasTree ∙ sym (g .hasTree)))
 
 -- The fresh one with the bit of its root set.
-pub rooted-is-not-good : Good (record { connections = replicate handles nobody; tree = record { bytes = set (replicate 128 0) 0 2 } }) → ⊥
+pub rooted-is-not-good : Good (record { connections = replicate handles nobody; tree = record { bytes = set (replicate treeBytes 0) 0 2 } }) → ⊥
 unfolding fresh treeFor nodeBit
 rooted-is-not-good =
-    flipped-is-not-good fresh fresh-is-good (set (replicate 128 0) 0 2) 1
+    flipped-is-not-good fresh fresh-is-good (set (replicate treeBytes 0) 0 2) 1
     (λ e. false≢true (sym (tree-bit (taken (replicate handles nobody)) 1 (omega arith)) ∙ sym e))
 
 -- Two connections on one anchor.

@@ -9,7 +9,7 @@ use lib.ListN.{length, take, drop, length-append, length-take, length-drop, take
 use lib.Seq.{take-at, drop-at, take-all, take-add, take-suc, drop-cons, drop-drop, drop-append-seam, take-append-le, drop-append-le}
 use Rattle.rules.specs.declared.Connection.{Connection}
 use Rattle.rules.specs.Bytes.{little, littleNumber}
-use Rattle.rules.specs.Records.{Piece, written, joined, begin, nth, piecesIn, piecesOf}
+use Rattle.rules.specs.Records.{Piece, bytesOf, joined, begin, nth, piecesIn, piecesOf}
 use Rattle.rules.specs.Form.{connectionKind, connectionSize}
 use Rattle.rules.specs.Image.{connectionPiece}
 use Rattle.rules.specs.Fields.{fieldIn, handleIn, connectionIn}
@@ -34,14 +34,14 @@ each-nth P (r ∷ rs) (suc i) l e = each-nth P rs i (omega arith) (e .1)
 
 -- ---- records one after the other
 -- A record is its payload and four bytes before it.
-pub written-length : (r : Piece) → length (written r) ≡ 4 + length (r .payload)
-unfolding written
-written-length r = omega arith
+pub record-length : (r : Piece) → length (bytesOf r) ≡ 4 + length (r .payload)
+unfolding bytesOf
+record-length r = omega arith
 
 pub joined-append : (xs ys : List Piece) → joined (xs ++ ys) ≡ joined xs ++ joined ys
 unfolding joined
 joined-append [] ys = refl
-joined-append (x ∷ xs) ys = ap (λ (l : List ℕ). written x ++ l) (joined-append xs ys) ∙ sym (append-assoc (written x) (joined xs) (joined ys))
+joined-append (x ∷ xs) ys = ap (λ (l : List ℕ). bytesOf x ++ l) (joined-append xs ys) ∙ sym (append-assoc (bytesOf x) (joined xs) (joined ys))
 
 -- ---- where each begins
 module _ (rs : List Piece) (i : ℕ) (l : i < length rs) where
@@ -51,10 +51,10 @@ module _ (rs : List Piece) (i : ℕ) (l : i < length rs) where
   begin-next =
       let r = nth rs i in
       let e : joined (take (suc i) rs) ≡ joined (take i rs) ++ joined (r ∷ []) = ap joined (take-suc rs i _ l) ∙ joined-append (take i rs) (r ∷ []) in
-      omega (arith, ap {B = ℕ} length e ∙ length-append (joined (take i rs)) (joined (r ∷ [])), length-append (written r) [], written-length r)
+      omega (arith, ap {B = ℕ} length e ∙ length-append (joined (take i rs)) (joined (r ∷ [])), length-append (bytesOf r) [], record-length r)
 
   -- From there on the bytes are the record, and the records after it.
-  pub begin-here : drop (begin rs i) (joined rs) ≡ written (nth rs i) ++ joined (drop (suc i) rs)
+  pub begin-here : drop (begin rs i) (joined rs) ≡ bytesOf (nth rs i) ++ joined (drop (suc i) rs)
   unfolding joined
   begin-here =
       ap (λ (bytes : List ℕ). drop (begin rs i) bytes) (ap joined (sym (take-append-drop i rs)) ∙ joined-append (take i rs) (drop i rs))
@@ -62,16 +62,16 @@ module _ (rs : List Piece) (i : ℕ) (l : i < length rs) where
       ∙ ap joined (drop-cons rs i _ l)
 
 -- What the bytes say where a record stands: its size, and each part of its payload.
-module _ (bytes : List ℕ) (at : ℕ) (r : Piece) (later : List ℕ) (here : drop at bytes ≡ written r ++ later) where
+module _ (bytes : List ℕ) (at : ℕ) (r : Piece) (later : List ℕ) (here : drop at bytes ≡ bytesOf r ++ later) where
   pub stands-whole : at + (4 + length (r .payload)) ≤ length bytes
-  stands-whole = omega (arith, ap {B = ℕ} length here, length-drop at bytes, length-append (written r) later, written-length r)
+  stands-whole = omega (arith, ap {B = ℕ} length here, length-drop at bytes, length-append (bytesOf r) later, record-length r)
 
   pub stands-size : length (r .payload) < 65536 → littleNumber (take 2 (drop at bytes)) ≡ length (r .payload)
-  unfolding written
+  unfolding bytesOf
   stands-size l = ap (λ (d : List ℕ). littleNumber (take 2 d)) here ∙ little-number 2 (length (r .payload)) l
 
   pub stands-part : (start width : ℕ) → start + width ≤ length (r .payload) → take width (drop (at + 4 + start) bytes) ≡ take width (drop start (r .payload))
-  unfolding written
+  unfolding bytesOf
   stands-part start width l =
       let from : start ≤ length (r .payload) = omega arith in
       let upto : width ≤ length (drop start (r .payload)) = simp length-drop (omega arith) in
@@ -83,7 +83,7 @@ module _ (bytes : List ℕ) (at : ℕ) (r : Piece) (later : List ℕ) (here : dr
 -- ---- written and read back
 -- With n for a bound, as many records as there are.
 pieces-in : (rs : List Piece) (n : ℕ) → length (joined rs) ≤ n → Each Fitting rs → piecesIn n (joined rs) ≡ rs
-unfolding joined written piecesIn
+unfolding joined bytesOf piecesIn
 pieces-in [] zero h f = refl
 pieces-in [] (suc n) h f = refl
 pieces-in (r ∷ rs) zero h f = absurd (omega arith)
@@ -91,8 +91,8 @@ pieces-in (r ∷ rs) (suc n) h f =
     let size = littleNumber (little 2 (length (r .payload))) in
     let e : size ≡ length (r .payload) = little-number 2 (length (r .payload)) (f .0 .size-fits) in
     let first : take size (r .payload ++ joined rs) ≡ r .payload = ap (λ (m : ℕ). take m (r .payload ++ joined rs)) e ∙ take-at (r .payload) (joined rs) _ refl in
-    let rest : drop (4 + size) (written r ++ joined rs) ≡ joined rs = ap (λ (m : ℕ). drop (4 + m) (written r ++ joined rs)) e ∙ drop-at (written r) (joined rs) _ (written-length r) in
-    let below : length (joined rs) ≤ n = omega (arith, length-append (written r) (joined rs), written-length r) in
+    let rest : drop (4 + size) (bytesOf r ++ joined rs) ≡ joined rs = ap (λ (m : ℕ). drop (4 + m) (bytesOf r ++ joined rs)) e ∙ drop-at (bytesOf r) (joined rs) _ (record-length r) in
+    let below : length (joined rs) ≤ n = omega (arith, length-append (bytesOf r) (joined rs), record-length r) in
     ap₂ {C = List Piece} (λ x l. x ∷ l)
     (λ i. record { kind = little-number 2 (r .kind) (f .0 .kind-fits) i; payload = first i })
     (ap (piecesIn n) rest ∙ pieces-in rs n below (f .1))

@@ -8,7 +8,7 @@ use native.Mathlib.Decide.{ℕ-discrete}
 use native.Mathlib.Omega.{arith}
 use lib.Pow.{pow-pos}
 use lib.ListN.{length, take, set, replicate, length-set, length-replicate}
-use lib.Seq.{take-all, take-suc, set-comm}
+use lib.Seq.{take-suc, set-comm}
 use lib.Dec.{ltb}
 use borrow.Author.Tests.{lt-ltb, ltb-true}
 use Rattle.rules.specs.declared.Connection.{Connection}
@@ -21,7 +21,7 @@ use Rattle.rules.specs.Good.{treeFor}
 use Rattle.rules.specs.Admit.{isOpen}
 use Rattle.rules.specs.Records.{Piece, nth}
 use Rattle.rules.specs.Fields.{handleIn, connectionIn}
-use Rattle.rules.specs.Load.{allNumbersSound, rising, soundRecords, restored}
+use Rattle.rules.specs.Load.{allNumbersSound, rising, soundRecords, atHandles}
 use Rattle.basics.proofs.BoolLaws.{both, is-false}
 use Rattle.blocks.proofs.ClassLaws.{within-depth}
 use Rattle.blocks.proofs.EndlessTime.{minusMod-only}
@@ -33,14 +33,14 @@ use Rattle.images.proofs.RisingLaws.{soundFrom, sound-from, rising-exac
 use Rattle.images.proofs.ImageLaws.{at-free}
 
 -- ---- what the records restore
-pub restored-length : (rs : List Piece) → length (restored rs) ≡ handles
-unfolding restored
+pub restored-length : (rs : List Piece) → length (atHandles rs) ≡ handles
+unfolding atHandles
 restored-length [] = length-replicate handles nobody
-restored-length (r ∷ rs) = length-set (restored rs) (handleIn r) (connectionIn r) ∙ restored-length rs
+restored-length (r ∷ rs) = length-set (atHandles rs) (handleIn r) (connectionIn r) ∙ restored-length rs
 
 -- Every connection has sound numbers.
-pub restored-numbers : (rs : List Piece) → allNumbersSound rs ≡ true → (h : ℕ) → at (restored rs) h .live ≡ true → Numbers (at (restored rs) h)
-unfolding restored allNumbersSound
+pub restored-numbers : (rs : List Piece) → allNumbersSound rs ≡ true → (h : ℕ) → at (atHandles rs) h .live ≡ true → Numbers (at (atHandles rs) h)
+unfolding atHandles allNumbersSound
 restored-numbers [] e h l = absurd (false≢true (sym (ap (λ (c : Connection). c .live) (at-free handles h)) ∙ l))
 restored-numbers (r ∷ rs) e h l =
     let p = both (ltb (handleIn r) handles && soundNumbers (connectionIn r)) (allNumbersSound rs) e in
@@ -48,10 +48,10 @@ restored-numbers (r ∷ rs) e h l =
     by-cases (ℕ-discrete h (handleIn r))
     (λ q.
     subst Numbers
-    (sym (ap (at (set (restored rs) (handleIn r) (connectionIn r))) q ∙ at-same (restored rs) (handleIn r) (connectionIn r) (omega (arith, ltb-true (handleIn r) handles (s .0), restored-length rs))))
+    (sym (ap (at (set (atHandles rs) (handleIn r) (connectionIn r))) q ∙ at-same (atHandles rs) (handleIn r) (connectionIn r) (omega (arith, ltb-true (handleIn r) handles (s .0), restored-length rs))))
     (numbers-sound (connectionIn r) .0 (s .1)))
     (λ q.
-    let other = at-other (restored rs) (handleIn r) (connectionIn r) h q in
+    let other = at-other (atHandles rs) (handleIn r) (connectionIn r) h q in
     subst Numbers (sym other) (restored-numbers rs (p .1) h (ap (λ (c : Connection). c .live) (sym other) ∙ l)))
 
 all-numbers : (rs : List Piece) → soundRecords rs ≡ true → allNumbersSound rs ≡ true
@@ -59,9 +59,9 @@ unfolding soundRecords
 all-numbers rs e = both (allNumbersSound rs) (rising (map handleIn rs)) e .0
 
 -- Sound is apart, where the records are sound.
-sound-apart : (rs : List Piece) → soundRecords rs ≡ true → soundConnections (restored rs) ≡ apart (restored rs)
+sound-apart : (rs : List Piece) → soundRecords rs ≡ true → soundConnections (atHandles rs) ≡ apart (atHandles rs)
 unfolding soundConnections
-sound-apart rs e = ap (λ (v : Bool). v && apart (restored rs)) (all-sound-of (restored rs) (restored-numbers rs (all-numbers rs e)))
+sound-apart rs e = ap (λ (v : Bool). v && apart (atHandles rs)) (all-sound-of (atHandles rs) (restored-numbers rs (all-numbers rs e)))
 
 -- ---- one record more, after the others
 -- The handles rise: it is placed where nobody is, whether first or last.
@@ -70,11 +70,11 @@ record Added (g : ℕ) (xs : List Piece) (r : Piece) : Type 0 where
   pub above : g ≤ handleIn r
   pub below : handleIn r < handles
   pub numbers : soundNumbers (connectionIn r) ≡ true
-  pub unused : at (restored xs) (handleIn r) ≡ nobody
-  pub placed : restored (xs ++ (r ∷ [])) ≡ set (restored xs) (handleIn r) (connectionIn r)
+  pub unused : at (atHandles xs) (handleIn r) ≡ nobody
+  pub placed : atHandles (xs ++ (r ∷ [])) ≡ set (atHandles xs) (handleIn r) (connectionIn r)
 
 added : (g : ℕ) (xs : List Piece) (r : Piece) → soundFrom g (xs ++ (r ∷ [])) ≡ true → Added g xs r
-unfolding restored soundFrom
+unfolding atHandles soundFrom
 added g [] r e =
     let p = rising-exactly g r [] .0 e in
     record { earlier = refl; above = p .above; below = p .below; numbers = p .numbers; unused = at-free handles (handleIn r); placed = refl }
@@ -86,10 +86,10 @@ added g (x ∷ xs) r e =
       above = omega (arith, p .above, q .above);
       below = q .below;
       numbers = q .numbers;
-      unused = at-other (restored xs) (handleIn x) (connectionIn x) (handleIn r) (λ z. omega (arith, q .above)) ∙ q .unused;
+      unused = at-other (atHandles xs) (handleIn x) (connectionIn x) (handleIn r) (λ z. omega (arith, q .above)) ∙ q .unused;
       placed =
           ap (λ (cs : List Connection). set cs (handleIn x) (connectionIn x)) (q .placed)
-          ∙ set-comm (restored xs) (handleIn r) (handleIn x) (connectionIn r) (connectionIn x) (λ z. omega (arith, q .above));
+          ∙ set-comm (atHandles xs) (handleIn r) (handleIn x) (connectionIn r) (connectionIn x) (λ z. omega (arith, q .above));
     }
 
 module _ (xs : List Piece) (r : Piece) (e : soundRecords (xs ++ (r ∷ [])) ≡ true) where
@@ -106,26 +106,26 @@ module _ (xs : List Piece) (r : Piece) (e : soundRecords (xs ++ (r ∷ [])) ≡ 
   pub numbers-here : Numbers (connectionIn r)
   numbers-here = numbers-sound (connectionIn r) .0 (one-more .numbers)
 
-  pub placed-here : restored (xs ++ (r ∷ [])) ≡ set (restored xs) (handleIn r) (connectionIn r)
+  pub placed-here : atHandles (xs ++ (r ∷ [])) ≡ set (atHandles xs) (handleIn r) (connectionIn r)
   placed-here = one-more .placed
 
-  inside : handleIn r < length (restored xs)
+  inside : handleIn r < length (atHandles xs)
   inside = omega (arith, handle-here, restored-length xs)
 
   -- Whoever owns a block has another handle.
-  owner-other : (j b : ℕ) → owns (at (restored xs) j) b ≡ true → j ≢ handleIn r
+  owner-other : (j b : ℕ) → owns (at (atHandles xs) j) b ≡ true → j ≢ handleIn r
   owner-other j b o q =
-      false≢true (sym (ap (λ (x : Connection). owns x b) (ap (at (restored xs)) q ∙ one-more .unused) ∙ nobody-owns b) ∙ o)
+      false≢true (sym (ap (λ (x : Connection). owns x b) (ap (at (atHandles xs)) q ∙ one-more .unused) ∙ nobody-owns b) ∙ o)
 
   -- And owns it still.
-  owner-still : (j b : ℕ) → owns (at (restored xs) j) b ≡ true → owns (at (restored (xs ++ (r ∷ []))) j) b ≡ true
+  owner-still : (j b : ℕ) → owns (at (atHandles xs) j) b ≡ true → owns (at (atHandles (xs ++ (r ∷ []))) j) b ≡ true
   owner-still j b o =
       ap (λ (cs : List Connection). owns (at cs j) b) placed-here
-      ∙ ap (λ (x : Connection). owns x b) (at-other (restored xs) (handleIn r) (connectionIn r) j (owner-other j b o)) ∙ o
+      ∙ ap (λ (x : Connection). owns x b) (at-other (atHandles xs) (handleIn r) (connectionIn r) j (owner-other j b o)) ∙ o
 
   -- It owns the blocks of its run.
   owns-here : (j b : ℕ) → j < connectionIn r .length → b % 2 ^ (connectionIn r .k) ≡ (connectionIn r .anchor + j) % 2 ^ (connectionIn r .k)
-      → owns (at (restored (xs ++ (r ∷ []))) (handleIn r)) b ≡ true
+      → owns (at (atHandles (xs ++ (r ∷ []))) (handleIn r)) b ≡ true
   unfolding connectionIn
   owns-here j b l m =
       let c = connectionIn r in
@@ -133,59 +133,59 @@ module _ (xs : List Piece) (r : Piece) (e : soundRecords (xs ++ (r ∷ [])) ≡ 
       let small : j < 2 ^ (c .k) = omega (arith, n .ceiled, n .whole) in
       let q : minusMod b (c .anchor) (2 ^ (c .k)) ≡ j = minusMod-only b (c .anchor) (2 ^ (c .k)) (pow-pos (c .k)) j small m in
       ap (λ (cs : List Connection). owns (at cs (handleIn r)) b) placed-here
-      ∙ ap (λ (x : Connection). owns x b) (at-same (restored xs) (handleIn r) c inside)
+      ∙ ap (λ (x : Connection). owns x b) (at-same (atHandles xs) (handleIn r) c inside)
       ∙ live-runs c refl b ∙ lt-ltb (minusMod b (c .anchor) (2 ^ (c .k))) (c .length) (omega arith)
 
   -- Where the whole is apart, the records before it are.
-  apart-earlier : apart (restored (xs ++ (r ∷ []))) ≡ true → apart (restored xs) ≡ true
+  apart-earlier : apart (atHandles (xs ++ (r ∷ []))) ≡ true → apart (atHandles xs) ≡ true
   apart-earlier a =
-      let s = sound-exactly (restored (xs ++ (r ∷ []))) .0 (sound-apart (xs ++ (r ∷ [])) e ∙ a) in
-      let earlier : Sound (restored xs) = record {
+      let s = sound-exactly (atHandles (xs ++ (r ∷ []))) .0 (sound-apart (xs ++ (r ∷ [])) e ∙ a) in
+      let earlier : Sound (atHandles xs) = record {
         numbers = restored-numbers xs (all-numbers xs sound-earlier);
         apart-ever = λ b i j x y. s .apart-ever b i j (owner-still i b x) (owner-still j b y);
       } in
-      sym (sound-apart xs sound-earlier) ∙ sound-exactly (restored xs) .1 earlier
+      sym (sound-apart xs sound-earlier) ∙ sound-exactly (atHandles xs) .1 earlier
 
   -- Where they clash, the whole does.
-  pub clash-earlier : apart (restored xs) ≡ false → apart (restored (xs ++ (r ∷ []))) ≡ false
-  clash-earlier a = is-false (apart (restored (xs ++ (r ∷ [])))) (λ w. false≢true (sym a ∙ apart-earlier w))
+  pub clash-earlier : apart (atHandles xs) ≡ false → apart (atHandles (xs ++ (r ∷ []))) ≡ false
+  clash-earlier a = is-false (apart (atHandles (xs ++ (r ∷ [])))) (λ w. false≢true (sym a ∙ apart-earlier w))
 
-  module _ (a : apart (restored xs) ≡ true) where
-    sound-still : soundConnections (restored xs) ≡ true
+  module _ (a : apart (atHandles xs) ≡ true) where
+    sound-still : soundConnections (atHandles xs) ≡ true
     sound-still = sound-apart xs sound-earlier ∙ a
 
     -- Its run is free: the whole is apart.
-    pub run-apart : runFree (taken (restored xs)) (connectionIn r .k) (connectionIn r .anchor) (connectionIn r .length) ≡ true → apart (restored (xs ++ (r ∷ []))) ≡ true
+    pub run-apart : runFree (taken (atHandles xs)) (connectionIn r .k) (connectionIn r .anchor) (connectionIn r .length) ≡ true → apart (atHandles (xs ++ (r ∷ []))) ≡ true
     unfolding isOpen connectionIn
     run-apart f =
         let c = connectionIn r in
-        let ever = open-ever (restored xs) (c .k) (c .length) (c .anchor) sound-still (within-depth (numbers-here .deep)) .0 f in
-        let s = sound-set (restored xs) (handleIn r) inside (sound-exactly (restored xs) .0 sound-still) c (λ l. numbers-here)
-        (λ b o. is-false (others (restored xs) (handleIn r) b) (λ t.
-        let w = others-at (restored xs) (handleIn r) inside b t in
-        false≢true (sym (open-nobody (restored xs) (c .k) (c .length) (c .anchor) b (w .0) ever (ltb-true _ _ (sym (live-runs c refl b) ∙ o))) ∙ w .2))) in
-        sym (sound-apart (xs ++ (r ∷ [])) e) ∙ ap soundConnections placed-here ∙ sound-exactly (set (restored xs) (handleIn r) c) .1 s
+        let ever = open-ever (atHandles xs) (c .k) (c .length) (c .anchor) sound-still (within-depth (numbers-here .deep)) .0 f in
+        let s = sound-set (atHandles xs) (handleIn r) inside (sound-exactly (atHandles xs) .0 sound-still) c (λ l. numbers-here)
+        (λ b o. is-false (others (atHandles xs) (handleIn r) b) (λ t.
+        let w = others-at (atHandles xs) (handleIn r) inside b t in
+        false≢true (sym (open-nobody (atHandles xs) (c .k) (c .length) (c .anchor) b (w .0) ever (ltb-true _ _ (sym (live-runs c refl b) ∙ o))) ∙ w .2))) in
+        sym (sound-apart (xs ++ (r ∷ [])) e) ∙ ap soundConnections placed-here ∙ sound-exactly (set (atHandles xs) (handleIn r) c) .1 s
 
     -- Its run is not free: the whole is not apart.
-    pub run-clash : runFree (taken (restored xs)) (connectionIn r .k) (connectionIn r .anchor) (connectionIn r .length) ≡ false → apart (restored (xs ++ (r ∷ []))) ≡ false
+    pub run-clash : runFree (taken (atHandles xs)) (connectionIn r .k) (connectionIn r .anchor) (connectionIn r .length) ≡ false → apart (atHandles (xs ++ (r ∷ []))) ≡ false
     unfolding isOpen
     run-clash f =
         let c = connectionIn r in
-        is-false (apart (restored (xs ++ (r ∷ [])))) (λ w.
-        let s = sound-exactly (restored (xs ++ (r ∷ []))) .0 (sound-apart (xs ++ (r ∷ [])) e ∙ w) in
-        let ever : RunFreeEver (restored xs) (c .k) (c .length) (c .anchor) =
+        is-false (apart (atHandles (xs ++ (r ∷ [])))) (λ w.
+        let s = sound-exactly (atHandles (xs ++ (r ∷ []))) .0 (sound-apart (xs ++ (r ∷ [])) e ∙ w) in
+        let ever : RunFreeEver (atHandles xs) (c .k) (c .length) (c .anchor) =
         λ j l b h m.
-        is-false (owns (at (restored xs) h) b) (λ o.
+        is-false (owns (at (atHandles xs) h) b) (λ o.
         owner-other h b o (s .apart-ever b h (handleIn r) (owner-still h b o) (owns-here j b l m))) in
-        false≢true (sym f ∙ open-ever (restored xs) (c .k) (c .length) (c .anchor) sound-still (within-depth (numbers-here .deep)) .1 ever))
+        false≢true (sym f ∙ open-ever (atHandles xs) (c .k) (c .length) (c .anchor) sound-still (within-depth (numbers-here .deep)) .1 ever))
 
   -- The tree with its run is that of the whole.
-  pub run-tree : treeOf (setRun (connectionIn r .k) (connectionIn r .anchor) 0 (connectionIn r .length) true (taken (restored xs))) ≡ treeFor (restored (xs ++ (r ∷ [])))
+  pub run-tree : treeOf (setRun (connectionIn r .k) (connectionIn r .anchor) 0 (connectionIn r .length) true (taken (atHandles xs))) ≡ treeFor (atHandles (xs ++ (r ∷ [])))
   unfolding connectionIn
   run-tree =
       let c = connectionIn r in
-      longer-tree (restored xs) (handleIn r) (c .k) (c .anchor) 0 (c .length) inside
-      (dead-runs (c .k) (c .anchor) (at (restored xs) (handleIn r)) (ap (λ (x : Connection). x .live) (one-more .unused))) c (live-runs c refl) (omega arith)
+      longer-tree (atHandles xs) (handleIn r) (c .k) (c .anchor) 0 (c .length) inside
+      (dead-runs (c .k) (c .anchor) (at (atHandles xs) (handleIn r)) (ap (λ (x : Connection). x .live) (one-more .unused))) c (live-runs c refl) (omega arith)
       ∙ ap treeFor (sym placed-here)
 
 -- ---- the first i of the records
@@ -208,18 +208,18 @@ module _ (rs : List Piece) (e : soundRecords rs ≡ true) where
   sound-next i l = ap soundRecords (sym (take-suc rs i _ l)) ∙ sound-first (suc i)
 
   -- Where they clash, more do.
-  pub clash-first : (n i : ℕ) → i ≤ n → n ≤ length rs → apart (restored (take i rs)) ≡ false → apart (restored (take n rs)) ≡ false
-  clash-first zero i l m a = let q : i ≡ 0 = omega arith in subst (λ (k : ℕ). apart (restored (take k rs)) ≡ false) q a
+  pub clash-first : (n i : ℕ) → i ≤ n → n ≤ length rs → apart (atHandles (take i rs)) ≡ false → apart (atHandles (take n rs)) ≡ false
+  clash-first zero i l m a = let q : i ≡ 0 = omega arith in subst (λ (k : ℕ). apart (atHandles (take k rs)) ≡ false) q a
   clash-first (suc n) i l m a =
       by-cases (ℕ-discrete i (suc n))
-      (λ q. subst (λ (k : ℕ). apart (restored (take k rs)) ≡ false) q a)
+      (λ q. subst (λ (k : ℕ). apart (atHandles (take k rs)) ≡ false) q a)
       (λ q.
-      ap (λ (xs : List Piece). apart (restored xs)) (take-suc rs n _ m)
+      ap (λ (xs : List Piece). apart (atHandles xs)) (take-suc rs n _ m)
       ∙ clash-earlier (take n rs) (nth rs n) (sound-next n m) (clash-first n i (omega arith) (omega arith) a))
 
 -- ---- no record
-pub apart-none : apart (restored []) ≡ true
-unfolding soundConnections restored allNumbersSound
+pub apart-none : apart (atHandles []) ≡ true
+unfolding soundConnections atHandles allNumbersSound
 apart-none =
     let s : Sound (replicate handles nobody) = record {
       numbers = restored-numbers [] refl;

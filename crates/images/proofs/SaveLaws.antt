@@ -14,7 +14,7 @@ use Rattle.rules.specs.declared.Refusal.the-variants.{BufferShort}
 use Rattle.rules.specs.Ownership.{at}
 use Rattle.rules.specs.Refusals.{number}
 use Rattle.rules.specs.Answers.{refused, saved}
-use Rattle.rules.specs.Records.{written, joined}
+use Rattle.rules.specs.Records.{bytesOf, joined}
 use Rattle.rules.specs.Image.{connectionPiece, connectionPieces, image}
 use Rattle.rules.specs.Save.{Written, saveChecks, saveDone, save}
 use Rattle.calls.proofs.RefusalLaws.{decided-first, decided-passed}
@@ -24,12 +24,12 @@ use Rattle.images.proofs.PieceLaws.{joined-append}
 -- ---- record by record
 -- The bytes of the records of the connections before h, and of the one of h, if it is live.
 module _ (cs : List Connection) (h : ℕ) (l : h < length cs) where
-  pub joined-live : at cs h .live ≡ true → joined (connectionPieces 0 (take (h + 1) cs)) ≡ joined (connectionPieces 0 (take h cs)) ++ written (connectionPiece h (at cs h))
+  pub joined-live : at cs h .live ≡ true → joined (connectionPieces 0 (take (h + 1) cs)) ≡ joined (connectionPieces 0 (take h cs)) ++ bytesOf (connectionPiece h (at cs h))
   unfolding joined
   joined-live e =
       ap joined (each-live connectionPiece cs h l e)
       ∙ joined-append (connectionPieces 0 (take h cs)) (connectionPiece h (at cs h) ∷ [])
-      ∙ ap (λ (x : List ℕ). joined (connectionPieces 0 (take h cs)) ++ x) (append-nil (written (connectionPiece h (at cs h))))
+      ∙ ap (λ (x : List ℕ). joined (connectionPieces 0 (take h cs)) ++ x) (append-nil (bytesOf (connectionPiece h (at cs h))))
 
   pub joined-dead : at cs h .live ≡ false → joined (connectionPieces 0 (take (h + 1) cs)) ≡ joined (connectionPieces 0 (take h cs))
   joined-dead e = ap joined (each-dead connectionPiece cs h l e)

@@ -17,7 +17,7 @@ use Rattle.rules.specs.Sound.{Numbers, apart}
 use Rattle.rules.specs.Good.{treeFor, fresh, withConnections}
 use Rattle.rules.specs.Records.{Piece, nth}
 use Rattle.rules.specs.Fields.{handleIn, connectionIn}
-use Rattle.rules.specs.Load.{soundRecords, restored}
+use Rattle.rules.specs.Load.{soundRecords, atHandles}
 use Rattle.images.proofs.RestoreLaws.{numbers-here, handle-here, placed-here, run-apart, run-clash, run-tree, sound-next, clash-first, apart-none}
 use Rattle.tree.specs.Promises.{IsTree}
 use Rattle.run.specs.Promises.{RunFreeSays, SetsRun}
@@ -27,16 +27,16 @@ use Rattle.restore.proofs.Calls.{most-all, most-clash}
 
 -- The first i records are taken, and no block belongs to two of them.
 pub record Taken (rs : List Piece) (i : ℕ) (cs : List Connection) (tree : List ℕ) : Type 0 where
-  pub placed : cs ≡ restored (take i rs)
-  pub marked : tree ≡ treeOf (taken (restored (take i rs)))
-  pub separate : apart (restored (take i rs)) ≡ true
+  pub placed : cs ≡ atHandles (take i rs)
+  pub marked : tree ≡ treeOf (taken (atHandles (take i rs)))
+  pub separate : apart (atHandles (take i rs)) ≡ true
 
 pub taken-none : (rs : List Piece) (s : Schedule) → s ≡ fresh → Taken rs 0 (s .connections) (s .tree .bytes)
-unfolding restored fresh treeFor
+unfolding atHandles fresh treeFor
 taken-none rs s e = rw e (record { placed = refl; marked = refl; separate = apart-none })
 
 pub taken-tree : (rs : List Piece) (i : ℕ) (cs : List Connection) (tree : List ℕ) → Taken rs i cs tree → IsTree tree
-taken-tree rs i cs tree w = (taken (restored (take i rs)), w .marked)
+taken-tree rs i cs tree w = (taken (atHandles (take i rs)), w .marked)
 
 module _ (rs : List Piece) (i : ℕ) (l : i < length rs) (e : soundRecords rs ≡ true) (c : Connection) (ec : c ≡ connectionIn (nth rs i)) where
   pub turn-numbers : Numbers c
@@ -47,15 +47,15 @@ module _ (rs : List Piece) (i : ℕ) (l : i < length rs) (e : soundRecords rs �
 
   module _ (cs : List Connection) (tree : List ℕ) (w : Taken rs i cs tree) where
     said : (says : Bool) → RunFreeSays (c .k) (c .anchor) (c .length) tree says
-        → runFree (taken (restored (take i rs))) (connectionIn (nth rs i) .k) (connectionIn (nth rs i) .anchor) (connectionIn (nth rs i) .length) ≡ says
+        → runFree (taken (atHandles (take i rs))) (connectionIn (nth rs i) .k) (connectionIn (nth rs i) .anchor) (connectionIn (nth rs i) .length) ≡ says
     said says f =
-        sym (f (taken (restored (take i rs))) (w .marked)
-        ∙ ap (λ (x : Connection). runFree (taken (restored (take i rs))) (x .k) (x .anchor) (x .length)) ec)
+        sym (f (taken (atHandles (take i rs))) (w .marked)
+        ∙ ap (λ (x : Connection). runFree (taken (atHandles (take i rs))) (x .k) (x .anchor) (x .length)) ec)
 
     -- Its run is not free: it clashes with those before it.
-    pub turn-clash : RunFreeSays (c .k) (c .anchor) (c .length) tree false → apart (restored (take (suc i) rs)) ≡ false
+    pub turn-clash : RunFreeSays (c .k) (c .anchor) (c .length) tree false → apart (atHandles (take (suc i) rs)) ≡ false
     turn-clash f =
-        ap (λ (xs : List Piece). apart (restored xs)) (take-suc rs i _ l)
+        ap (λ (xs : List Piece). apart (atHandles xs)) (take-suc rs i _ l)
         ∙ run-clash (take i rs) (nth rs i) (sound-next rs e i l) (w .separate) (said false f)
 
     -- It is free, and is taken.
@@ -68,21 +68,21 @@ module _ (rs : List Piece) (i : ℕ) (l : i < length rs) (e : soundRecords rs �
         let sound-so = sound-next rs e i l in
         rw (add-one i)
         (record {
-          placed = rw (w .placed, eh, ec) (sym (placed-here first (nth rs i) sound-so) ∙ ap restored more);
+          placed = rw (w .placed, eh, ec) (sym (placed-here first (nth rs i) sound-so) ∙ ap atHandles more);
           marked =
-              s (taken (restored first)) (w .marked)
-              ∙ ap (λ (x : Connection). treeOf (setRun (x .k) (x .anchor) 0 (x .length) true (taken (restored first)))) ec
+              s (taken (atHandles first)) (w .marked)
+              ∙ ap (λ (x : Connection). treeOf (setRun (x .k) (x .anchor) 0 (x .length) true (taken (atHandles first)))) ec
               ∙ run-tree first (nth rs i) sound-so
-              ∙ ap (λ (xs : List Piece). treeOf (taken (restored xs))) more;
+              ∙ ap (λ (xs : List Piece). treeOf (taken (atHandles xs))) more;
           separate =
-              ap (λ (xs : List Piece). apart (restored xs)) (sym more)
+              ap (λ (xs : List Piece). apart (atHandles xs)) (sym more)
               ∙ run-apart first (nth rs i) sound-so (w .separate) (said true f);
         })
 
 -- ---- the answers
 module _ (bytes : List ℕ) (i : ℕ) (cs : List Connection) (tree : List ℕ) (w : Taken (records bytes) i cs tree)
     (r : Restored) (p : r .schedule .connections ≡ cs) (t : r .schedule .tree .bytes ≡ tree) (at : Cursor bytes i (r .end)) where
-  restores : r .apart ≡ apart (restored (records bytes)) → mostApart (records bytes) ≡ i → Restores bytes r
+  restores : r .apart ≡ apart (atHandles (records bytes)) → mostApart (records bytes) ≡ i → Restores bytes r
   unfolding withConnections treeFor
   restores says m =
       record {
@@ -93,10 +93,10 @@ module _ (bytes : List ℕ) (i : ℕ) (cs : List Connection) (tree : List ℕ) (
 
   pub restores-all : i ≡ length (records bytes) → r .apart ≡ true → Restores bytes r
   restores-all q a =
-      let all : apart (restored (records bytes)) ≡ true = sym (ap (λ (k : ℕ). apart (restored (take k (records bytes)))) q ∙ ap (λ (xs : List Piece). apart (restored xs)) (take-length (records bytes))) ∙ w .separate in
+      let all : apart (atHandles (records bytes)) ≡ true = sym (ap (λ (k : ℕ). apart (atHandles (take k (records bytes)))) q ∙ ap (λ (xs : List Piece). apart (atHandles xs)) (take-length (records bytes))) ∙ w .separate in
       restores (a ∙ sym all) (most-all (records bytes) all ∙ sym q)
 
-  pub restores-not : i < length (records bytes) → soundRecords (records bytes) ≡ true → r .apart ≡ false → apart (restored (take (suc i) (records bytes))) ≡ false → Restores bytes r
+  pub restores-not : i < length (records bytes) → soundRecords (records bytes) ≡ true → r .apart ≡ false → apart (atHandles (take (suc i) (records bytes))) ≡ false → Restores bytes r
   restores-not l e a c =
-      let all : apart (restored (records bytes)) ≡ false = ap (λ (xs : List Piece). apart (restored xs)) (sym (take-length (records bytes))) ∙ clash-first (records bytes) e (length (records bytes)) (suc i) l (omega arith) c in
+      let all : apart (atHandles (records bytes)) ≡ false = ap (λ (xs : List Piece). apart (atHandles xs)) (sym (take-length (records bytes))) ∙ clash-first (records bytes) e (length (records bytes)) (suc i) l (omega arith) c in
       restores (a ∙ sym all) (most-clash (records bytes) i l e (w .separate) c)

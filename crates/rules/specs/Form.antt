@@ -15,12 +15,19 @@ pub record Head : Type 0 where
 abbrev pub headOf : Piece → Head
 headOf r = record { kind = r .kind; size = length (r .payload) }
 
+-- A record of this kind and this size.
+unfoldable pub headed : ℕ → ℕ → Head → Bool
+headed kind size h = eqb (h .kind) kind && eqb (h .size) size
+
 -- "one of kind 1, payload 2 bytes"
 abbrev pub countKind : ℕ
 countKind = 1
 
 abbrev pub countSize : ℕ
 countSize = 2
+
+abbrev pub isCount : Head → Bool
+isCount = headed countKind countSize
 
 -- "kind 2, 14 bytes each"
 abbrev pub connectionKind : ℕ
@@ -29,6 +36,9 @@ connectionKind = 2
 abbrev pub connectionSize : ℕ
 connectionSize = 14
 
+abbrev pub isConnection : Head → Bool
+isConnection = headed connectionKind connectionSize
+
 -- "one of kind 3, the 128 tree bytes"
 abbrev pub treeKind : ℕ
 treeKind = 3
@@ -36,13 +46,12 @@ treeKind = 3
 abbrev pub treeSize : ℕ
 treeSize = treeBytes
 
--- A record of this kind and this size.
-unfoldable pub headed : ℕ → ℕ → Head → Bool
-headed kind size h = eqb (h .kind) kind && eqb (h .size) size
+abbrev pub isTree : Head → Bool
+isTree = headed treeKind treeSize
 
 -- What is asked for in each place: "In order: one of kind 1 ..; n of kind 2 ..; one of kind 3 .. Nothing follows."
 abbrev pub form : ℕ → List (Head → Bool)
-form n = headed countKind countSize ∷ (replicate n (headed connectionKind connectionSize) ++ (headed treeKind treeSize ∷ []))
+form n = isCount ∷ (replicate n isConnection ++ (isTree ∷ []))
 
 -- Each record is what is asked for in its place, and none is missing or left over.
 unfoldable pub formed : List (Head → Bool) → List Head → Bool

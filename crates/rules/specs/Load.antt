@@ -40,14 +40,14 @@ unfolding connectionsIn soundRecords
 numbersUnsound rs = not (soundRecords (connectionsIn rs))
 
 -- The connections of the records, each at its handle.
-unfoldable pub restored : List Piece → List Connection
+unfoldable pub atHandles : List Piece → List Connection
 unfolding handleIn connectionIn
-restored [] = replicate handles nobody
-restored (r ∷ rs) = set (restored rs) (handleIn r) (connectionIn r)
+atHandles [] = replicate handles nobody
+atHandles (r ∷ rs) = set (atHandles rs) (handleIn r) (connectionIn r)
 
 unfoldable pub connectionsOf : List Piece → List Connection
-unfolding restored connectionsIn
-connectionsOf rs = restored (connectionsIn rs)
+unfolding atHandles connectionsIn
+connectionsOf rs = atHandles (connectionsIn rs)
 
 -- "Checks 9, 10, 11, 12, each over the whole image before the next."
 unfoldable pub loadChecks : List ℕ → List Check

@@ -9,14 +9,14 @@ pub record Piece : Type 0 where
   pub kind : ℕ
   pub payload : List ℕ
 
-unfoldable pub written : Piece → List ℕ
+unfoldable pub bytesOf : Piece → List ℕ
 unfolding little
-written r = little 2 (length (r .payload)) ++ little 2 (r .kind) ++ r .payload
+bytesOf r = little 2 (length (r .payload)) ++ little 2 (r .kind) ++ r .payload
 
 unfoldable pub joined : List Piece → List ℕ
-unfolding written
+unfolding bytesOf
 joined [] = []
-joined (r ∷ rs) = written r ++ joined rs
+joined (r ∷ rs) = bytesOf r ++ joined rs
 
 -- Record i begins where the first i end.
 abbrev pub begin : List Piece → ℕ → ℕ

@@ -1,18 +1,19 @@
 -- What is printed, put piece by piece.
 use mathlib.Core.Path.{_≡_, refl, sym, ap, subst, _∙_}
-use mathlib.Core.Bool.{Bool, true, false, cond}
-use mathlib.Core.List.{List, [], _∷_, _++_, append-nil, append-assoc}
+use mathlib.Core.Bool.{true, false}
+use mathlib.Core.List.{List, [], _∷_, _++_, flatten, append-nil, append-assoc}
 use Prim.Native.Nat.{ℕ, zero, suc, _+_, _<_, _≤_}
-use native.Mathlib.Nat.{add-zero}
 use native.Mathlib.Omega.{arith}
 use native.Mathlib.Numerals.{add-one}
 use lib.ListN.{length, getD, take, drop, set, replicate, length-append, length-drop, length-replicate}
-use lib.Seq.{take-suc, length-take-le, drop-cons, drop-length, set-at, append-snoc}
+use lib.Seq.{drop-cons, drop-length, set-at, append-snoc}
 use Rattle.rules.specs.declared.Connection.{Connection}
-use Rattle.rules.specs.Ownership.{nobody, at}
+use Rattle.rules.specs.Ownership.{at}
+use Rattle.rules.specs.Handles.{eachLive}
 use Rattle.rules.specs.Decimal.{decimal}
 use Rattle.rules.specs.Text.{text}
 use Rattle.rules.specs.Words.{spaced}
+use Rattle.calls.proofs.EachLaws.{each-live, each-dead}
 use Rattle.text.specs.Promises.{Puts, PutsWithin}
 use Rattle.text.proofs.Putting.{puts-after, spaced-append}
 use Rattle.hex.specs.Hex.{hex}
@@ -59,39 +60,24 @@ blank-all l b i v q e =
     e ∙ ap (λ (n : ℕ). replicate n v ++ drop n l) q ∙ ap (λ (x : List ℕ). replicate (length l) v ++ x) (drop-length l) ∙ append-nil (replicate (length l) v)
 
 -- ---- the state, handle by handle
-state-append : (h : ℕ) (xs ys : List Connection) → stateLines h (xs ++ ys) ≡ stateLines h xs ++ stateLines (h + length xs) ys
-unfolding stateLines
-state-append h [] ys = ap (λ (k : ℕ). stateLines k ys) (sym (add-zero h))
-state-append h (x ∷ xs) ys =
-    let k : suc h + length xs ≡ h + suc (length xs) = omega arith in
-    go (x .live) (state-append (suc h) xs ys ∙ ap (λ (m : ℕ). stateLines (suc h) xs ++ stateLines m ys) k)
-  where
-    go : (b : Bool) → stateLines (suc h) (xs ++ ys) ≡ stateLines (suc h) xs ++ stateLines (h + suc (length xs)) ys
-        → cond b (connectionLine h x ++ stateLines (suc h) (xs ++ ys)) (stateLines (suc h) (xs ++ ys))
-        ≡ cond b (connectionLine h x ++ stateLines (suc h) xs) (stateLines (suc h) xs) ++ stateLines (h + suc (length xs)) ys
-    go true e = ap (λ (l : List ℕ). connectionLine h x ++ l) e ∙ sym (append-assoc (connectionLine h x) (stateLines (suc h) xs) (stateLines (h + suc (length xs)) ys))
-    go false e = e
+flatten-append : (xs ys : List (List ℕ)) → flatten (xs ++ ys) ≡ flatten xs ++ flatten ys
+unfolding flatten
+flatten-append [] ys = refl
+flatten-append (x ∷ xs) ys = ap (λ (l : List ℕ). x ++ l) (flatten-append xs ys) ∙ sym (append-assoc x (flatten xs) (flatten ys))
 
 module _ (cs : List Connection) (h : ℕ) (here : h < length cs) where
-  one-more : stateLines 0 (take (h + 1) cs) ≡ stateLines 0 (take h cs) ++ stateLines h (at cs h ∷ [])
-  one-more =
-      let n : 0 + length (take h cs) ≡ h = omega (arith, length-take-le h cs (omega arith)) in
-      ap (stateLines 0) (rw (add-one h) (take-suc cs h nobody here)) ∙ state-append 0 (take h cs) (at cs h ∷ [])
-      ∙ ap (λ (k : ℕ). stateLines 0 (take h cs) ++ stateLines k (at cs h ∷ [])) n
-
   -- A live one has its line,
   pub state-live : at cs h .live ≡ true → stateLines 0 (take h cs) ++ connectionLine h (at cs h) ≡ stateLines 0 (take (h + 1) cs)
-  unfolding stateLines
+  unfolding stateLines flatten
   state-live e =
-      sym (one-more ∙ ap (λ (l : List ℕ). stateLines 0 (take h cs) ++ l)
-      (ap (λ (b : Bool). cond b (connectionLine h (at cs h) ++ []) []) e ∙ append-nil (connectionLine h (at cs h))))
+      sym (ap flatten (each-live connectionLine cs h here e)
+      ∙ flatten-append (eachLive connectionLine 0 (take h cs)) (connectionLine h (at cs h) ∷ [])
+      ∙ ap (λ (l : List ℕ). flatten (eachLive connectionLine 0 (take h cs)) ++ l) (append-nil (connectionLine h (at cs h))))
 
   -- another nothing.
   pub state-dead : at cs h .live ≡ false → stateLines 0 (take h cs) ≡ stateLines 0 (take (h + 1) cs)
   unfolding stateLines
-  state-dead e =
-      sym (one-more ∙ ap (λ (l : List ℕ). stateLines 0 (take h cs) ++ l) (ap (λ (b : Bool). cond b (connectionLine h (at cs h) ++ []) []) e)
-      ∙ append-nil (stateLines 0 (take h cs)))
+  state-dead e = sym (ap flatten (each-dead connectionLine cs h here e))
 
 -- The same, where the buffer and the place go by other names.
 pub puts-moved : {l x b c : List ℕ} {start m n : ℕ} → c ≡ b → n ≡ m → Puts l start x b m → Puts l start x c n

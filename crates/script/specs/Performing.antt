@@ -1,7 +1,6 @@
 -- What a line of a script prints, and the schedule after it.
-use Prim.Native.Nat.{ℕ, suc}
-use mathlib.Core.Bool.{cond}
-use mathlib.Core.List.{List, [], _∷_, _++_}
+use Prim.Native.Nat.{ℕ}
+use mathlib.Core.List.{List, [], _∷_, _++_, flatten}
 use lib.ListN.{replicate}
 use Rattle.rules.specs.declared.Schedule.{Schedule}
 use Rattle.rules.specs.declared.Connection.{Connection}
@@ -10,6 +9,7 @@ use Rattle.rules.specs.Text.{byte, text}
 use Rattle.rules.specs.Decimal.{decimal}
 use Rattle.rules.specs.Words.{spaced, wordsOf}
 use Rattle.rules.specs.Good.{fresh}
+use Rattle.rules.specs.Handles.{eachLive}
 use Rattle.rules.specs.Image.{image}
 use Rattle.rules.specs.Save.{save}
 use Rattle.rules.specs.Load.{load}
@@ -33,11 +33,8 @@ connectionLine h c = decimal h ++ spaced (c .k ∷ c .anchor ∷ c .length ∷ c
 
 -- "for each live connection by rising handle", from handle h on
 unfoldable pub stateLines : ℕ → List Connection → List ℕ
-unfolding connectionLine
-stateLines h [] = []
-stateLines h (c ∷ cs) =
-    let later = stateLines (suc h) cs in
-    cond (c .live) (connectionLine h c ++ later) later
+unfolding connectionLine eachLive flatten
+stateLines h cs = flatten (eachLive connectionLine h cs)
 
 -- A buffer of n bytes "that each hold A5 hexadecimal".
 abbrev pub blank : ℕ → List ℕ

@@ -60,7 +60,7 @@ returns-2 c =
     let n = c .before in
     let f = n .before .before in
     let s = f .before .before .before in
-    (refl, wrong-count (s .before .args .bytes .now) (small s) (f .first .given .0 .0) (n .number .result) (first-is f) (n .number .ensures) (c .if1 .taken))
+    (refl, wrong-count (s .before .args .bytes .now) (small s) (f .first .given .0 .0) (n .number .result) (first-is f) (n .number .ensures) (omega (arith, c .if1 .taken)))
 
 pass-connections-requires : tie.Need-pass-connections-requires
 pass-connections-requires c κs = let f = first-is (c .before .before .before) in omega (arith, f .0 .fits, f .1)

@@ -2,10 +2,12 @@
 use borrow.Author.Needs.{needs}
 use mathlib.Core.Path.{_≡_, refl}
 use mathlib.Core.Logic.{⊎-elim}
+use mathlib.Core.List.{flatten}
 use Prim.Native.Nat.{_-_, _*_, _<_, _≤_}
 use native.Mathlib.Omega.{arith}
 use lib.ListN.{length, take}
 use lib.Seq.{take-all}
+use Rattle.rules.specs.Handles.{eachLive}
 use Rattle.text.specs.Promises.{Puts}
 use Rattle.text.proofs.Putting.{puts-after, puts-length}
 use Rattle.script.specs.Performing.{stateLines}
@@ -21,7 +23,7 @@ abbrev μ-loop : tie.MeasureT-loop
 μ-loop out₀ connections next₀ h₀ out next h = 64 - h
 
 loop-holds : tie.Need-loop-holds Inv-loop μ-loop
-unfolding stateLines
+unfolding stateLines eachLive flatten
 loop-holds c = (omega arith, record { stored = refl; ends = refl }, omega arith)
 
 mul-if1 : tie.Need-mul-if1 Inv-loop μ-loop
