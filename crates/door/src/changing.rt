@@ -1,0 +1,75 @@
+//! The calls that change a schedule: it comes by value, and goes back beside the answer.
+ghost use Rattle.rules.specs.Good.{Good};
+ghost use Rattle.rules.specs.Admit.{admit as admitRule};
+ghost use Rattle.rules.specs.Drop.{drop as dropRule};
+ghost use Rattle.rules.specs.Report.{report as reportRule};
+ghost use Rattle.schedule.specs.Promises.{Starts};
+ghost use Rattle.door.specs.Promises.{Leaves};
+use crate::Called;
+use crate::saying::admission;
+use crate::saying::dropping;
+use crate::saying::reporting;
+use rules::Schedule;
+use schedule::admit;
+use schedule::drop;
+use schedule::fresh;
+use schedule::report;
+
+/// A fresh schedule: every byte of it is 0.
+#[no_mangle]
+pub extern "C" fn beak_fresh() -> Schedule
+    ensures { λ r. ⌜ Starts r ⌝ }
+{
+    fresh()
+}
+
+/// Admit.
+#[no_mangle]
+pub extern "C" fn beak_admitted(
+    s: Schedule,
+    handle: u32,
+    interval: u32,
+    floor: u32,
+    ceiling: u32,
+) -> Called
+    requires { ⌜ Good s ⌝ }
+    ensures { λ r. ⌜ Leaves (admitRule s handle interval floor ceiling) r ⌝ }
+{
+    let done = admit(s, handle, interval, floor, ceiling);
+    let answer = done.answer;
+    let schedule = done.schedule;
+    Called {
+        said: admission(answer),
+        schedule,
+    }
+}
+
+/// Drop.
+#[no_mangle]
+pub extern "C" fn beak_dropped(s: Schedule, handle: u32) -> Called
+    requires { ⌜ Good s ⌝ }
+    ensures { λ r. ⌜ Leaves (dropRule s handle) r ⌝ }
+{
+    let done = drop(s, handle);
+    let answer = done.answer;
+    let schedule = done.schedule;
+    Called {
+        said: dropping(answer),
+        schedule,
+    }
+}
+
+/// Report.
+#[no_mangle]
+pub extern "C" fn beak_reported(s: Schedule, handle: u32, sample: u32) -> Called
+    requires { ⌜ Good s ⌝ }
+    ensures { λ r. ⌜ Leaves (reportRule s handle sample) r ⌝ }
+{
+    let done = report(s, handle, sample);
+    let answer = done.answer;
+    let schedule = done.schedule;
+    Called {
+        said: reporting(answer),
+        schedule,
+    }
+}
