@@ -1,4 +1,5 @@
 //! The calls that change a schedule: it comes by value, and goes back beside the answer.
+//! Each has the answer in numbers before it takes the schedule: the other way round the schedule is copied once more.
 ghost use Rattle.rules.specs.Good.{Good};
 ghost use Rattle.rules.specs.Admit.{admit as admitRule};
 ghost use Rattle.rules.specs.Drop.{drop as dropRule};
@@ -37,11 +38,9 @@ pub extern "C" fn beak_admitted(
 {
     let done = admit(s, handle, interval, floor, ceiling);
     let answer = done.answer;
+    let said = admission(answer);
     let schedule = done.schedule;
-    Called {
-        said: admission(answer),
-        schedule,
-    }
+    Called { said, schedule }
 }
 
 /// Drop.
@@ -52,11 +51,9 @@ pub extern "C" fn beak_dropped(s: Schedule, handle: u32) -> Called
 {
     let done = drop(s, handle);
     let answer = done.answer;
+    let said = dropping(answer);
     let schedule = done.schedule;
-    Called {
-        said: dropping(answer),
-        schedule,
-    }
+    Called { said, schedule }
 }
 
 /// Report.
@@ -67,9 +64,7 @@ pub extern "C" fn beak_reported(s: Schedule, handle: u32, sample: u32) -> Called
 {
     let done = report(s, handle, sample);
     let answer = done.answer;
+    let said = reporting(answer);
     let schedule = done.schedule;
-    Called {
-        said: reporting(answer),
-        schedule,
-    }
+    Called { said, schedule }
 }

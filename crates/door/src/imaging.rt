@@ -4,11 +4,10 @@ ghost use Rattle.rules.specs.Save.{save as saveRule};
 ghost use Rattle.rules.specs.Load.{load as loadRule};
 ghost use Rattle.door.specs.Promises.{Leaves, Writes};
 use crate::Called;
-use crate::SAVED;
 use crate::Said;
 use crate::saying::loading;
 use crate::saying::refused;
-use crate::saying::say;
+use crate::saying::saved;
 use image::load;
 use image::save;
 use rules::Saving;
@@ -22,7 +21,7 @@ pub extern "C" fn beak_saved(s: Schedule, buffer: &mut [u8]) -> Said
 {
     let answer = save(s, buffer);
     match answer {
-        Saving::Size(size) => say(SAVED, size as u32),
+        Saving::Size(size) => saved(size as u32),
         Saving::Refused(r) => refused(r),
     }
 }
@@ -35,9 +34,7 @@ pub extern "C" fn beak_loaded(s: Schedule, bytes: &[u8]) -> Called
 {
     let done = load(s, bytes);
     let answer = done.answer;
+    let said = loading(answer);
     let schedule = done.schedule;
-    Called {
-        said: loading(answer),
-        schedule,
-    }
+    Called { said, schedule }
 }

@@ -15,33 +15,7 @@ pub use imaging::beak_loaded;
 pub use imaging::beak_saved;
 use rules::Schedule;
 
-// ---- the kinds of an answer, numbered for ever: a later one comes at the end
-
-pub const REFUSED: u32 = 1;
-
-pub const PLACED: u32 = 2;
-
-pub const DROPPED: u32 = 3;
-
-pub const KEPT: u32 = 4;
-
-pub const GROWN: u32 = 5;
-
-pub const SHRUNK: u32 = 6;
-
-pub const TIGHT: u32 = 7;
-
-pub const OWNER: u32 = 8;
-
-pub const IDLE: u32 = 9;
-
-pub const SLOTS: u32 = 10;
-
-pub const SAVED: u32 = 11;
-
-pub const LOADED: u32 = 12;
-
-/// An answer in numbers: its kind, and its values in the rule sheet's order, 0 where it has none.
+/// An answer in numbers: its kind, and its values in the rule sheet's order, 0 where it has none: specs/Numbers.
 #[repr(C)]
 pub struct Said {
     pub kind: u32,

@@ -1,20 +1,9 @@
 //! What each answer is in numbers.
 ghost use mathlib.Core.Path.{_≡_};
 ghost use Rattle.rules.specs.Refusals.{number};
-ghost use Rattle.rules.specs.Answers.{refused as refusedWith, ofAdmission, ofDropping, ofReporting, ofOwnership, ofDistance, ofLoading};
+ghost use Rattle.rules.specs.Answers.{refused as refusedWith, saved as savedAs, ofAdmission, ofDropping, ofReporting, ofOwnership, ofDistance, ofLoading};
 ghost use Rattle.door.specs.Numbers.{says as saysOf, Says};
-use crate::DROPPED;
-use crate::GROWN;
-use crate::IDLE;
-use crate::KEPT;
-use crate::LOADED;
-use crate::OWNER;
-use crate::PLACED;
-use crate::REFUSED;
-use crate::SHRUNK;
-use crate::SLOTS;
 use crate::Said;
-use crate::TIGHT;
 use rules::Admission;
 use rules::Distance;
 use rules::Dropping;
@@ -24,8 +13,22 @@ use rules::Refusal;
 use rules::Reporting;
 use text::refusal_number;
 
+// The kinds of an answer, numbered for ever: a later one comes at the end.
+const REFUSED: u32 = 1;
+const PLACED: u32 = 2;
+const DROPPED: u32 = 3;
+const KEPT: u32 = 4;
+const GROWN: u32 = 5;
+const SHRUNK: u32 = 6;
+const TIGHT: u32 = 7;
+const OWNER: u32 = 8;
+const IDLE: u32 = 9;
+const SLOTS: u32 = 10;
+const SAVED: u32 = 11;
+const LOADED: u32 = 12;
+
 // An answer with one value, or with none.
-pub fn say(kind: u32, first: u32) -> Said
+fn say(kind: u32, first: u32) -> Said
     ensures { λ r. ⌜ r ≡ saysOf kind first 0 0 ⌝ }
 {
     Said {
@@ -97,6 +100,13 @@ pub fn distance(answer: Distance) -> Said
         Distance::Slots(n) => say(SLOTS, n),
         Distance::Refused(r) => refused(r),
     }
+}
+
+// A save's size, which fits: an image has 1,290 bytes at most.
+pub fn saved(size: u32) -> Said
+    ensures { λ r. ⌜ Says (savedAs size) r ⌝ }
+{
+    say(SAVED, size)
 }
 
 pub fn loading(answer: Loading) -> Said

@@ -10,7 +10,8 @@ admission-requires : tie.Need-admission-requires
 admission-requires c κs = search needs
 
 returns : tie.Need-returns
-returns c = let o = c .before .before .admit .ensures in leaves (c .admission .ensures) (o .is) (o .good)
+returns c = let o = c .before .before .admit .ensures in leaves (c .before .admission .ensures) (o .is) (o .good)
+
 
 pub beak-admitted-spec : {M : Type 1} → statement M
 beak-admitted-spec = tie.close (tie.spec admit-requires admission-requires returns)

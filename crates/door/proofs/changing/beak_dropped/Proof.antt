@@ -10,7 +10,8 @@ dropping-requires : tie.Need-dropping-requires
 dropping-requires c κs = search needs
 
 returns : tie.Need-returns
-returns c = let o = c .before .before .drop .ensures in leaves (c .dropping .ensures) (o .is) (o .good)
+returns c = let o = c .before .before .drop .ensures in leaves (c .before .dropping .ensures) (o .is) (o .good)
+
 
 pub beak-dropped-spec : {M : Type 1} → statement M
 beak-dropped-spec = tie.close (tie.spec drop-requires dropping-requires returns)

@@ -10,7 +10,8 @@ reporting-requires : tie.Need-reporting-requires
 reporting-requires c κs = search needs
 
 returns : tie.Need-returns
-returns c = let o = c .before .before .report .ensures in leaves (c .reporting .ensures) (o .is) (o .good)
+returns c = let o = c .before .before .report .ensures in leaves (c .before .reporting .ensures) (o .is) (o .good)
+
 
 pub beak-reported-spec : {M : Type 1} → statement M
 beak-reported-spec = tie.close (tie.spec report-requires reporting-requires returns)

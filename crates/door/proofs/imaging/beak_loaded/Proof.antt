@@ -10,7 +10,8 @@ loading-requires : tie.Need-loading-requires
 loading-requires c κs = search needs
 
 returns : tie.Need-returns
-returns c = let o = c .before .before .load .ensures in leaves (c .loading .ensures) (o .is) (o .good)
+returns c = let o = c .before .before .load .ensures in leaves (c .before .loading .ensures) (o .is) (o .good)
+
 
 pub beak-loaded-spec : {M : Type 1} → statement M
 beak-loaded-spec = tie.close (tie.spec load-requires loading-requires returns)

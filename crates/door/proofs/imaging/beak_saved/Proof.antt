@@ -9,14 +9,14 @@ save-requires c κs = search needs
 enum-known-answer : tie.Need-enum-known-answer
 enum-known-answer c = search needs
 
-cast-say : tie.Need-cast-say
-cast-say c =
+cast-saved : tie.Need-cast-saved
+cast-saved c =
     let start = c .before .before .before .before .before .before .before .before in
     let done = c .before .before .before .before .before .save in
     record { fits = size-fits (start .args .s) (start .args .buffer .now) (done .last .1 .0) (start .pre) (done .result) (done .ensures) (c .before .answer .given .0 .0) (c .before .answer .given .1) }
 
-say-requires : tie.Need-say-requires
-say-requires c κs = search needs
+saved-requires : tie.Need-saved-requires
+saved-requires c κs = search needs
 
 enum-known-answer-2 : tie.Need-enum-known-answer-2
 enum-known-answer-2 c = search needs
@@ -31,7 +31,7 @@ returns : tie.Need-returns
 returns c =
     let start = c .before .before .before .before .before .before .before .before .before in
     let done = c .before .before .before .before .before .before .save in
-    writes (start .args .s) (start .args .buffer .now) (done .last .1 .0) (done .result) _ (c .say .result) (done .ensures) (c .before .before .answer .given .1) (c .say .ensures)
+    writes (start .args .s) (start .args .buffer .now) (done .last .1 .0) (done .result) _ (c .saved .result) (done .ensures) (c .before .before .answer .given .1) (c .saved .ensures)
 
 same-length-2 : tie.Need-same-length-2
 same-length-2 c = search needs
@@ -48,8 +48,8 @@ beak-saved-spec =
     (tie.spec
     save-requires
     enum-known-answer
-    cast-say
-    say-requires
+    cast-saved
+    saved-requires
     enum-known-answer-2
     refused-requires
     same-length
