@@ -1,4 +1,5 @@
-/* How much stack each call takes, with the copies of beak.h: it is made on a stack that was painted before, and what is no longer paint is counted. */
+/* How much stack each call takes, with the copies of beak.h: it is made on a stack that was painted before, and from the deepest byte that is
+ * no longer paint on it is counted. Of each call the case that goes deepest: the whole tree taken or given back, or a full house. */
 #include <stdio.h>
 #include <string.h>
 #include <ucontext.h>
@@ -9,20 +10,31 @@ enum { PAINT = 0xA5 };
 static struct beak s;
 static struct beak_said said;
 static uint8_t image[1290], painted[65536];
+static size_t size;
 static ucontext_t here, there;
 
-/* Of each call a case that goes deepest: the whole tree is taken and given back, a run of every block is searched, an image is full. */
 static void nothing(void) {}
-static void admit(void) { said = beak_admit(&s, 0, 6, 1, 1); }
-static void admit_long(void) { said = beak_admit(&s, 0, 3072, 512, 512); }
+static void admit_whole(void) { said = beak_admit(&s, 0, 6, 1, 1); }
+static void admit_longest(void) { said = beak_admit(&s, 0, 3072, 512, 512); }
+static void admit_half(void) { said = beak_admit(&s, 0, 12, 1, 2); }
 static void drop(void) { said = beak_drop(&s, 0); }
 static void report(void) { said = beak_report(&s, 0, 7500); }
-static void owner(void) { said = beak_owner(&s, 0); }
-static void anchor(void) { said = beak_anchor(&s, 0, 7); }
-static void save(void) { said = beak_save(&s, image, sizeof image); }
-static void load(void) { said = beak_load(&s, image, said.first); }
+static void owner(void) { said = beak_owner(&s, 511); }
+static void anchor(void) { said = beak_anchor(&s, 63, 7); }
+static void load(void) { said = beak_load(&s, image, size); }
+static void save(void) {
+    said = beak_save(&s, image, sizeof image);
+    size = said.first;
+}
 
-static size_t taken(void (*call)(void)) {
+static void fresh(void) { s = beak_fresh(); }
+
+static void fill(void) {
+    fresh();
+    for (uint32_t handle = 0; handle < 64; handle++) said = beak_admit(&s, handle, 3072, 8, 8);
+}
+
+static size_t touched(void (*call)(void)) {
     size_t low = 0;
     memset(painted, PAINT, sizeof painted);
     getcontext(&there);
@@ -35,23 +47,25 @@ static size_t taken(void (*call)(void)) {
     return sizeof painted - low;
 }
 
-static void say(const char *call, void (*made)(void)) { printf("%s %zu %u\n", call, taken(made) - taken(nothing), said.kind); }
-
-static void fresh(void) { s = beak_fresh(); }
+static void measure(const char *call, const char *which, void (*made)(void)) {
+    size_t all = touched(made);
+    printf("%s|%s|%zu\n", call, which, all - touched(nothing));
+}
 
 int main(void) {
-    say("admit", admit);
-    say("drop", drop);
-    say("admit", admit_long);
-    say("drop", drop);
+    measure("admit", "the whole tree", admit_whole);
+    save();
+    measure("drop", "the whole tree", drop);
+    measure("load", "the whole tree", load);
     fresh();
-    said = beak_admit(&s, 0, 12, 1, 2);
-    say("report", report);
-    say("owner", owner);
-    say("anchor", anchor);
+    measure("admit", "a run of 512 blocks", admit_longest);
     fresh();
-    for (uint32_t h = 0; h < 64; h++) said = beak_admit(&s, h, 3072, 8, 8);
-    say("save", save);
-    say("load", load);
+    admit_half();
+    measure("report", "grown, half of the tree", report);
+    fill();
+    measure("owner", "64 live", owner);
+    measure("anchor", "of a live connection", anchor);
+    measure("save", "64 live", save);
+    measure("load", "64 live", load);
     return 0;
 }
