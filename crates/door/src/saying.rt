@@ -15,16 +15,27 @@ use text::refusal_number;
 
 // The kinds of an answer, numbered for ever: a later one comes at the end.
 const REFUSED: u32 = 1;
+
 const PLACED: u32 = 2;
+
 const DROPPED: u32 = 3;
+
 const KEPT: u32 = 4;
+
 const GROWN: u32 = 5;
+
 const SHRUNK: u32 = 6;
+
 const TIGHT: u32 = 7;
+
 const OWNER: u32 = 8;
+
 const IDLE: u32 = 9;
+
 const SLOTS: u32 = 10;
+
 const SAVED: u32 = 11;
+
 const LOADED: u32 = 12;
 
 // An answer with one value, or with none.

@@ -1,3 +1,4 @@
+-- `door::imaging::beak_saved` meets its contract: the size fits, and the bytes are the rule's.
 use Rattle.door.proofs.Writing.{size-fits, writes}
 use borrow.Author.Needs.{needs}
 use Rattle.door.proofs.imaging.beak_saved.Statement.{statement}

@@ -1,3 +1,4 @@
+-- `door::saying::admission` meets its contract: each case has its own numbers.
 use mathlib.Core.Path.{sym, ap, _∙_}
 use Rattle.rules.specs.Answers.{ofAdmission}
 use Rattle.door.specs.Numbers.{numbers}

@@ -1,3 +1,4 @@
+-- `door::saying::distance` meets its contract: each case has its own numbers.
 use mathlib.Core.Path.{sym, ap, _∙_}
 use Rattle.rules.specs.Answers.{ofDistance}
 use Rattle.door.specs.Numbers.{numbers}

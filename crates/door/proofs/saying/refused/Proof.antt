@@ -1,3 +1,4 @@
+-- `door::saying::refused` meets its contract: the table's number, in numbers.
 use Prim.Native.Nat.{ℕ}
 use mathlib.Core.Path.{ap, _∙_}
 use Rattle.door.specs.Numbers.{says}
