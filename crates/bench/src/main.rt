@@ -7,11 +7,14 @@ use image::save;
 use input::Input;
 use input::read_all;
 use libc::STDOUT_FILENO;
+use line::put_loading;
 use line::put_reply;
+use order::Order;
+use order::order_of;
 use questions::anchor;
 use questions::owner;
 use rules::Command;
-use rules::Loading;
+use rules::LONGEST_ANSWER;
 use rules::Reply;
 use rules::Saving;
 use rules::Schedule;
@@ -19,8 +22,6 @@ use schedule::admit;
 use schedule::drop;
 use schedule::fresh;
 use schedule::report;
-use script::Order;
-use script::order_of;
 use show::end;
 use show::number;
 use show::refused;
@@ -33,7 +34,7 @@ fn mark() {
 }
 
 fn tell(reply: Reply) {
-    let mut out = [0u8; 28];
+    let mut out = [0u8; LONGEST_ANSWER];
     let count = put_reply(&mut out, 0, reply);
     word(&out[..count]);
 }
@@ -120,14 +121,10 @@ fn loaded(s: Schedule, bytes: &[u8]) -> Schedule
     let left = done.schedule;
     mark();
     let answer = done.answer;
-    match answer {
-        Loading::Count(n) => {
-            word(b"loaded");
-            number(n as u64);
-            end();
-        }
-        Loading::Refused(r) => refused(r),
-    }
+    let mut out = [0u8; LONGEST_ANSWER];
+    let count = put_loading(&mut out, 0, answer);
+    word(&out[..count]);
+    end();
     left
 }
 

@@ -16,12 +16,12 @@ use Rattle.rules.specs.Time.{minusMod}
 use Rattle.rules.specs.Ownership.{handles, nobody, at, belongs, owns, taken}
 use Rattle.rules.specs.Classes.{nothing, setRun}
 use Rattle.rules.specs.TreeBytes.{treeOf}
-use Rattle.rules.specs.Good.{Good, FreeSlotsZero, treeFor, scheduleOf, fresh}
+use Rattle.rules.specs.Good.{Good, FreeSlotsZero, treeFor, fresh, withConnections, withConnection}
 use Rattle.rules.specs.Handles.{connection}
 use Rattle.basics.proofs.BoolLaws.{bool-iff, is-false}
 use Rattle.blocks.proofs.TreeLaws.{tree-ext}
 use Rattle.rules.specs.Sound.{Numbers, sound}
-use Rattle.blocks.proofs.SoundLaws.{Sound, sound-exactly, taken-at, taken-of, scheduled-good}
+use Rattle.blocks.proofs.SoundLaws.{Sound, sound-exactly, taken-at, taken-of, connected-good}
 
 -- ---- nobody
 pub nobody-owns : (b : ℕ) → owns nobody b ≡ false
@@ -39,7 +39,7 @@ fresh-tree = tree-ext nothing (taken (replicate handles nobody)) (λ b l. sym (t
 
 pub fresh-is-good : Good fresh
 unfolding fresh sound
-fresh-is-good = scheduled-good (replicate handles nobody) refl refl
+fresh-is-good = record { places = refl; isSound = refl; hasTree = refl }
 
 -- ---- the connection of one handle becomes c
 module _ (cs : List Connection) (h : ℕ) (c : Connection) where
@@ -180,23 +180,23 @@ module _ (s : Schedule) (good : Good s) (h : ℕ) (below : h ≤ 63) where
   pub inside : h < length (s .connections)
   inside = omega (arith, good .places)
 
-  pub set-good : (c : Connection) → (c .live ≡ true → Numbers c) → ((b : ℕ) → owns c b ≡ true → others (s .connections) h b ≡ false) → Good (scheduleOf (set (s .connections) h c))
+  pub set-good : (c : Connection) → (c .live ≡ true → Numbers c) → ((b : ℕ) → owns c b ≡ true → others (s .connections) h b ≡ false) → Good (withConnection s h c)
   set-good c n free =
-      scheduled-good (set (s .connections) h c) (length-set (s .connections) h c ∙ good .places)
+      connected-good s (set (s .connections) h c) (length-set (s .connections) h c ∙ good .places)
       (sound-exactly (set (s .connections) h c) .1 (sound-set (s .connections) h inside (good-sound s good) c n free))
 
   -- Every other connection is as it was.
-  pub set-other : (c : Connection) (j : ℕ) → j ≢ h → connection (scheduleOf (set (s .connections) h c)) j ≡ connection s j
-  unfolding scheduleOf
+  pub set-other : (c : Connection) (j : ℕ) → j ≢ h → connection (withConnection s h c) j ≡ connection s j
+  unfolding withConnections
   set-other c j n = at-other (s .connections) h c j n
 
-  pub set-same : (c : Connection) → connection (scheduleOf (set (s .connections) h c)) h ≡ c
-  unfolding scheduleOf
+  pub set-same : (c : Connection) → connection (withConnection s h c) h ≡ c
+  unfolding withConnections
   set-same c = at-same (s .connections) h c inside
 
   -- Free slots stay zeros, where a slot that is freed is one.
-  pub set-zero : FreeSlotsZero s → (c : Connection) → (c .live ≡ false → c ≡ nobody) → FreeSlotsZero (scheduleOf (set (s .connections) h c))
+  pub set-zero : FreeSlotsZero s → (c : Connection) → (c .live ≡ false → c ≡ nobody) → FreeSlotsZero (withConnection s h c)
   set-zero z c n j e =
       by-cases (ℕ-discrete j h)
-      (λ q. ap (connection (scheduleOf (set (s .connections) h c))) q ∙ set-same c ∙ n (ap (λ (x : Connection). x .live) (sym (ap (connection (scheduleOf (set (s .connections) h c))) q ∙ set-same c)) ∙ e))
+      (λ q. ap (connection (withConnection s h c)) q ∙ set-same c ∙ n (ap (λ (x : Connection). x .live) (sym (ap (connection (withConnection s h c)) q ∙ set-same c)) ∙ e))
       (λ q. set-other c j q ∙ z j (ap (λ (x : Connection). x .live) (sym (set-other c j q)) ∙ e))

@@ -9,12 +9,13 @@ use native.Mathlib.Omega.{arith}
 use lib.ListN.{length}
 use borrow.Author.Tests.{le-leb, leb-true, lt-ltb, ltb-true}
 use Rattle.rules.specs.declared.Connection.{Connection}
+use Rattle.rules.specs.declared.Schedule.{Schedule}
 use Rattle.rules.specs.Below.{any}
 use Rattle.rules.specs.Time.{blockMicros, listBlocks}
 use Rattle.rules.specs.Ownership.{handles, largestK, factor, at, belongs, owns, taken, ownedTwice}
 use Rattle.rules.specs.Classes.{depth, free}
 use Rattle.rules.specs.Sound.{soundNumbers, Numbers, allSound, apart, sound}
-use Rattle.rules.specs.Good.{Good, scheduleOf}
+use Rattle.rules.specs.Good.{Good, scheduleOf, withConnections}
 use Rattle.basics.proofs.BoolLaws.{bool-iff, both, is-false, not-true-is-false}
 use Rattle.basics.proofs.BelowLaws.{any-none, none-at}
 use Rattle.blocks.proofs.EndlessTime.{belongs-mod}
@@ -188,7 +189,11 @@ class-free-ever cs k r s hk hr =
       λ none. ever .1 (λ b m. is-false (taken cs b) (λ t. let w = taken-at cs b t in false≢true (sym (none b (w .0) m) ∙ w .1))),
     )
 
--- 64 sound connections with their tree are a good schedule.
+-- A schedule with 64 sound connections and their tree is good.
+pub connected-good : (s : Schedule) (cs : List Connection) → length cs ≡ handles → sound cs ≡ true → Good (withConnections s cs)
+unfolding withConnections
+connected-good s cs l e = record { places = l; isSound = e; hasTree = refl }
+
 pub scheduled-good : (cs : List Connection) → length cs ≡ handles → sound cs ≡ true → Good (scheduleOf cs)
 unfolding scheduleOf
 scheduled-good cs l e = record { places = l; isSound = e; hasTree = refl }

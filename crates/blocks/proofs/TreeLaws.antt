@@ -14,7 +14,7 @@ use lib.Seq.{ext-getD}
 use borrow.Author.Tests.{eqb-true}
 use Rattle.rules.specs.Classes.{depth, classTaken, withClass, withoutClass, inClass, free, nothing}
 use Rattle.rules.specs.Mirror.{mirrored}
-use Rattle.blocks.specs.Joined.{Joined}
+use Rattle.blocks.specs.Children.{OrOfChildren}
 use Rattle.rules.specs.Nodes.{nodeBit}
 use Rattle.rules.specs.TreeBytes.{packed, treeByte, treeOf, bitOf, bitAt, Sized}
 use Rattle.basics.proofs.BoolLaws.{is-false}
@@ -135,7 +135,7 @@ abbrev pub LeavesOf : (ℕ → Bool) → List ℕ → Type 0
 LeavesOf f t = (p : ℕ) → p < 512 → bitAt t (512 + p) ≡ f (mirrored depth p)
 
 -- Each inner node of a tree is set exactly if one of its children is.
-pub tree-joined : (f : ℕ → Bool) (a : ℕ) → 0 < a → a < 512 → Joined (treeOf f) a
+pub tree-joined : (f : ℕ → Bool) (a : ℕ) → 0 < a → a < 512 → OrOfChildren (treeOf f) a
 tree-joined f a h l =
     rw (tree-bit f a (omega arith), tree-bit f (2 * a) (omega arith), tree-bit f (2 * a + 1) (omega arith)) (bit-children f a h l)
 
@@ -144,7 +144,7 @@ tree-leaves f p h = tree-bit f (512 + p) (omega arith) ∙ bit-leaf f p h
 
 -- Bytes with node 0 clear, the leaves right, and each inner node the OR of its children are the tree.
 module _ (f : ℕ → Bool) (t : List ℕ) (sized : Sized t) (root : bitAt t 0 ≡ false)
-    (joined : (a : ℕ) → 0 < a → a < 512 → Joined t a) (leaves : LeavesOf f t) where
+    (joined : (a : ℕ) → 0 < a → a < 512 → OrOfChildren t a) (leaves : LeavesOf f t) where
   at-leaf : (n : ℕ) → 512 ≤ n → n < 1024 → bitAt t n ≡ nodeBit f n
   at-leaf n h l =
       let e : 512 + (n - 512) ≡ n = omega arith in

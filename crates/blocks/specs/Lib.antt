@@ -1,2 +1,2 @@
 -- What contracts say of a tree from the inside.
-pub mod Joined
+pub mod Children

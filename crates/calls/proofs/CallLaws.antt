@@ -13,7 +13,7 @@ use Rattle.rules.specs.Good.{Good, FreeSlotsZero}
 use Rattle.rules.specs.Answers.{Answer, Outcome, refused, refusing}
 use Rattle.rules.specs.Refusals.{number, Check, decided}
 use Rattle.rules.specs.Admit.{kOf, admitChecks, admitDone, admit}
-use Rattle.rules.specs.Drop.{dropChecks, dropDone, drop}
+use Rattle.rules.specs.Drop.{dropChecks, dropDone, dropHandle}
 use Rattle.rules.specs.Report.{roomToGrow, aim, reportAnswer, reportChecks, reportDone, report}
 use Rattle.calls.proofs.RefusalLaws.{decided-cases, decided-map, refused-same}
 use Rattle.calls.proofs.MeterLaws.{change-cases}
@@ -24,7 +24,7 @@ use Rattle.calls.proofs.ReportLaws.{report-cases, report-good, report-z
 -- What each of these calls leaves of a schedule.
 pub data Leaves (s : Schedule) : Outcome → Type 0 where
   admits : (h i f c : ℕ) → Leaves s (admit s h i f c)
-  drops : (h : ℕ) → Leaves s (drop s h)
+  drops : (h : ℕ) → Leaves s (dropHandle s h)
   reports : (h sample : ℕ) → Leaves s (report s h sample)
 
 -- A rule that keeps the schedule where its answer is a refusal.
@@ -58,7 +58,7 @@ tabled-outcome cs s done t = subst⁻¹ Tabled (decided-map (λ (o : Outcome). o
 
 -- What is done once the checks pass is no refusal.
 pub refusal-in-table : (s : Schedule) {o : Outcome} → Leaves s o → Tabled (o .answer)
-unfolding admit admitDone drop dropDone report reportDone
+unfolding admit admitDone dropHandle dropDone report reportDone
 refusal-in-table s (admits h i f c) =
     tabled-outcome (admitChecks s h i f c) s (admitDone s h (kOf i) f c) (λ n e. let z : _≡_ {A = ℕ} 0 1 = cc in absurd (omega arith))
 refusal-in-table s (drops h) =

@@ -13,11 +13,11 @@ use Rattle.rules.specs.Ownership.{nobody, owns, taken}
 use Rattle.rules.specs.Classes.{depth}
 use Rattle.rules.specs.Nodes.{covers}
 use Rattle.rules.specs.TreeBytes.{bitAt}
-use Rattle.rules.specs.Good.{Good, FreeSlotsZero, treeFor, scheduleOf}
+use Rattle.rules.specs.Good.{Good, FreeSlotsZero, treeFor, withConnections}
 use Rattle.rules.specs.Answers.{Outcome, dropped, refusing}
 use Rattle.rules.specs.Refusals.{number}
 use Rattle.rules.specs.Handles.{isLive, connection}
-use Rattle.rules.specs.Drop.{dropChecks, dropDone, drop}
+use Rattle.rules.specs.Drop.{dropChecks, dropDone, dropHandle}
 use Rattle.calls.proofs.RefusalLaws.{decided-cases}
 use Rattle.blocks.proofs.ScheduleLaws.{nobody-owns, others-at, others-of, sound-set, good-sound, inside, set-good, set-zero, set-other, set-same}
 use Rattle.blocks.proofs.SoundLaws.{Sound, sound-exactly, sound-all, taken-periodic}
@@ -26,42 +26,42 @@ use Rattle.blocks.proofs.TreeLaws.{tree-bit}
 
 -- ---- each exit
 module _ (s : Schedule) (h : ℕ) where
-  pub drop-1 : 63 < h → drop s h ≡ refusing s (number HandleAbove63)
-  unfolding drop
+  pub drop-1 : 63 < h → dropHandle s h ≡ refusing s (number HandleAbove63)
+  unfolding dropHandle
   drop-1 p = rw (lt-ltb 63 h p)
 
-  pub drop-3 : h ≤ 63 → isLive s h ≡ false → drop s h ≡ refusing s (number HandleNotLive)
-  unfolding drop
+  pub drop-3 : h ≤ 63 → isLive s h ≡ false → dropHandle s h ≡ refusing s (number HandleNotLive)
+  unfolding dropHandle
   drop-3 p q = rw (le-ltb 63 h p, q)
 
-  pub drop-ok : h ≤ 63 → isLive s h ≡ true → drop s h ≡ dropDone s h
-  unfolding drop
+  pub drop-ok : h ≤ 63 → isLive s h ≡ true → dropHandle s h ≡ dropDone s h
+  unfolding dropHandle
   drop-ok p q = rw (le-ltb 63 h p, q)
 
 -- ---- the schedule afterwards
 -- It is as before, or the handle, which was live, has become a free slot.
-pub drop-cases : (s : Schedule) (h : ℕ) (P : Outcome → Type 0) → ((n : ℕ) → P (refusing s n)) → (h ≤ 63 → isLive s h ≡ true → P (dropDone s h)) → P (drop s h)
-unfolding drop
+pub drop-cases : (s : Schedule) (h : ℕ) (P : Outcome → Type 0) → ((n : ℕ) → P (refusing s n)) → (h ≤ 63 → isLive s h ≡ true → P (dropDone s h)) → P (dropHandle s h)
+unfolding dropHandle
 drop-cases s h P f g = decided-cases P (dropChecks s h) (refusing s) (dropDone s h) (λ why. f (number why)) (λ p. g (ltb-false 63 h (p .0)) (not-false (isLive s h) (p .1 .0)))
 
 module _ (s : Schedule) (good : Good s) (h : ℕ) where
   -- A drop leaves a good schedule.
-  pub drop-good : Good (drop s h .schedule)
+  pub drop-good : Good (dropHandle s h .schedule)
   unfolding dropDone
   drop-good = drop-cases s h (λ o. Good (o .schedule)) (λ n. good) (λ p q. set-good s good h p nobody (λ e. absurd (false≢true e)) (λ b e. absurd (false≢true (sym (nobody-owns b) ∙ e))))
 
   -- Free slots stay zeros.
-  pub drop-zero : FreeSlotsZero s → FreeSlotsZero (drop s h .schedule)
+  pub drop-zero : FreeSlotsZero s → FreeSlotsZero (dropHandle s h .schedule)
   unfolding dropDone
   drop-zero z = drop-cases s h (λ o. FreeSlotsZero (o .schedule)) (λ n. z) (λ p q. set-zero s good h p z nobody (λ e. refl))
 
   -- Every other connection is as it was.
-  pub drop-others : (j : ℕ) → j ≢ h → connection (drop s h .schedule) j ≡ connection s j
+  pub drop-others : (j : ℕ) → j ≢ h → connection (dropHandle s h .schedule) j ≡ connection s j
   unfolding dropDone
   drop-others j n = drop-cases s h (λ o. connection (o .schedule) j ≡ connection s j) (λ n. refl) (λ p q. set-other s good h p nobody j n)
 
   -- After an accepted drop the handle is free.
-  pub drop-ends : drop s h .answer ≡ dropped → connection (drop s h .schedule) h ≡ nobody
+  pub drop-ends : dropHandle s h .answer ≡ dropped → connection (dropHandle s h .schedule) h ≡ nobody
   unfolding dropDone
   drop-ends =
       drop-cases s h (λ o. o .answer ≡ dropped → connection (o .schedule) h ≡ nobody)
@@ -71,7 +71,7 @@ module _ (s : Schedule) (good : Good s) (h : ℕ) where
 -- After an accepted drop a node is set exactly if another connection has a block under it.
 pub drop-node : (s : Schedule) → Good s → (h k p : ℕ) → h ≤ 63 → k ≤ depth → p < 2 ^ k
     → (bitAt (dropDone s h .schedule .tree .bytes) (2 ^ k + p) ≡ true) ↔ ((b : ℕ) × (j : ℕ) × (j ≢ h) × (covers k p b ≡ true) × (owns (connection s j) b ≡ true))
-unfolding dropDone scheduleOf treeFor
+unfolding dropDone withConnections treeFor
 drop-node s good h k p below hk hp =
     let cs = set (s .connections) h nobody in
     let g : 2 ^ k ≤ 512 = pow-mono hk in

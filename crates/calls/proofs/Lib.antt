@@ -8,4 +8,5 @@ pub mod ReportLaws
 pub mod QuestionLaws
 pub mod RoomLaws
 pub mod LiveLaws
+pub mod EachLaws
 pub mod CallLaws

@@ -10,7 +10,7 @@ use Rattle.rules.specs.Good.{Good}
 use Rattle.rules.specs.Answers.{ok, dropped}
 use Rattle.rules.specs.Handles.{connection, isLive}
 use Rattle.rules.specs.Admit.{admit}
-use Rattle.rules.specs.Drop.{drop}
+use Rattle.rules.specs.Drop.{dropHandle}
 use Rattle.rules.specs.Report.{reportDone, report}
 use Rattle.calls.proofs.AdmitLaws.{admit-others, admit-stored}
 use Rattle.calls.proofs.DropLaws.{drop-others, drop-ends}
@@ -30,11 +30,11 @@ module _ (s : Schedule) (good : Good s) (h : ℕ) where
   admit-lives-other i f c j n = alike s (admit s h i f c .schedule) j (admit-others s good h i f c j n)
 
   -- An accepted drop ends its own handle, and no other.
-  pub drop-lives : drop s h .answer ≡ dropped → isLive (drop s h .schedule) h ≡ false
+  pub drop-lives : dropHandle s h .answer ≡ dropped → isLive (dropHandle s h .schedule) h ≡ false
   drop-lives e = ap (λ (x : Connection). x .live) (drop-ends s good h e)
 
-  pub drop-lives-other : (j : ℕ) → j ≢ h → isLive (drop s h .schedule) j ≡ isLive s j
-  drop-lives-other j n = alike s (drop s h .schedule) j (drop-others s good h j n)
+  pub drop-lives-other : (j : ℕ) → j ≢ h → isLive (dropHandle s h .schedule) j ≡ isLive s j
+  drop-lives-other j n = alike s (dropHandle s h .schedule) j (drop-others s good h j n)
 
   -- A report begins and ends nothing.
   pub report-lives : (sample j : ℕ) → isLive (report s h sample .schedule) j ≡ isLive s j

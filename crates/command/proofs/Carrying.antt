@@ -12,24 +12,24 @@ use Rattle.rules.specs.declared.Obeyed.{Obeyed}
 use Rattle.rules.specs.Good.{Good}
 use Rattle.rules.specs.Answers.{ofReply}
 use Rattle.rules.specs.Text.{text}
-use Rattle.rules.specs.Words.{wordsOf}
+use Rattle.rules.specs.Words.{wordsOf, longestAnswer}
 use Rattle.rules.specs.Commands.{says}
-use Rattle.rules.specs.Program.{Printed, heed}
+use Rattle.rules.specs.Program.{Printed, carriedOut}
 use Rattle.texts.proofs.CommandLaws.{says-only, line-length}
 use Rattle.text.specs.Promises.{Puts}
 use Rattle.command.specs.Promises.{Obeys, Carries}
 use Rattle.line.specs.Promises.{PutsLine, PutsAnswer}
 
 -- A command is as long as its answer needs.
-pub room-said : (line : List ℕ) (c : Command) → says line ≡ Says c → 28 ≤ 4 * (length line + 1)
+pub room-said : (line : List ℕ) (c : Command) → says line ≡ Says c → longestAnswer ≤ 4 * (length line + 1)
 room-said line c e = omega (arith, ap (λ (l : List ℕ). length l) (says-only line c e .0), line-length c)
 
 module _ (s : Schedule) (line entry exit : List ℕ) (start next : ℕ) where
   -- What a line prints and leaves, by what it says.
-  carried-as : {l : Line} {p : Printed} {after : Schedule} → says line ≡ l → heed s l ≡ p → after ≡ p .schedule → Good after
+  carried-as : {l : Line} {p : Printed} {after : Schedule} → says line ≡ l → carriedOut s l ≡ p → after ≡ p .schedule → Good after
       → PutsLine entry start (p .words) exit next → next ≤ start + 4 * (length line + 1) → Carries s line entry start exit (record { schedule = after; at = next })
   carried-as {l} {p} {after} e h q good puts room =
-      let same : p ≡ heed s (says line) = sym (ap (heed s) e ∙ h) in
+      let same : p ≡ carriedOut s (says line) = sym (ap (carriedOut s) e ∙ h) in
       record {
         prints = subst (λ (x : Printed). PutsLine entry start (x .words) exit next) same puts;
         leaves = q ∙ ap (λ (x : Printed). x .schedule) same;
@@ -39,13 +39,13 @@ module _ (s : Schedule) (line entry exit : List ℕ) (start next : ℕ) where
 
   -- "a bad line changes nothing"
   pub carried-bad : Good s → says line ≡ Bad → Puts entry start (text "bad\n") exit next → Carries s line entry start exit (record { schedule = s; at = next })
-  unfolding heed
+  unfolding carriedOut
   carried-bad good e puts = carried-as e refl refl good puts (omega (arith, puts .ends))
 
   -- A command prints its answer.
   pub carried-said : (c : Command) (r : Obeyed) → says line ≡ Says c → Obeys s c r → PutsAnswer entry start (ofReply (r .reply)) exit next
       → Carries s line entry start exit (record { schedule = r .schedule; at = next })
-  unfolding heed
+  unfolding carriedOut
   carried-said c r e o puts =
       carried-as e
       (λ i. record { words = wordsOf (sym (o .is) i .answer); schedule = sym (o .is) i .schedule })

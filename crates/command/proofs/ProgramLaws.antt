@@ -12,24 +12,25 @@ use Rattle.rules.specs.declared.Line.{Line}
 use Rattle.rules.specs.declared.Line.the-variants.{Says, Bad}
 use Rattle.rules.specs.Good.{Good, fresh}
 use Rattle.rules.specs.Answers.{Answer, refused, ok, dropped, kept, grown, shrunk, tight, owner, idle, slots, saved, loaded}
+use Rattle.rules.specs.Obey.{obey}
 use Rattle.rules.specs.Text.{byte, text}
 use Rattle.rules.specs.Decimal.{decimal}
 use Rattle.rules.specs.Split.{split, before}
 use Rattle.rules.specs.Words.{spaced, wordsOf}
 use Rattle.rules.specs.Commands.{says}
-use Rattle.rules.specs.Program.{mostInput, obey, heed, printed, tailPrinted, answered, program}
+use Rattle.rules.specs.Program.{mostInput, carriedOut, printed, tailPrinted, answered, program}
 use Rattle.texts.proofs.SplitLaws.{Without, without-append, before-without, split-piece, split-none}
 use Rattle.calls.proofs.CallLaws.{admits, drops, reports, refusal-keeps-schedule, call-good}
-use Rattle.texts.proofs.CommandLaws.{decimal-without}
+use Rattle.texts.proofs.RowLaws.{decimal-without}
 
 -- ---- one line at a time
 -- A whole line is answered, and then the rest from the schedule that it leaves.
 pub answered-line : (s : Schedule) (line rest : List ℕ) → Without (byte "\n") line
-    → answered s (line ++ byte "\n" ∷ rest) ≡ heed s (says line) .words ++ byte "\n" ∷ answered (heed s (says line) .schedule) rest
+    → answered s (line ++ byte "\n" ∷ rest) ≡ carriedOut s (says line) .words ++ byte "\n" ∷ answered (carriedOut s (says line) .schedule) rest
 unfolding answered printed
 answered-line s line rest h =
     let later = split (byte "\n") rest in
-    let one = heed s (says line) in
+    let one = carriedOut s (says line) in
     rw (split-piece (byte "\n") line rest h)
     (append-assoc (one .words) (byte "\n" ∷ printed (one .schedule) (later .pieces)) (tailPrinted (later .tail)))
 
@@ -53,9 +54,9 @@ program-answered input h = rw (le-ltb mostInput (length input) h)
 
 -- ---- what a line leaves
 -- A bad line prints `bad` and changes nothing.
-pub heed-bad : (s : Schedule) (line : List ℕ) → says line ≡ Bad → heed s (says line) ≡ record { words = text "bad"; schedule = s }
-unfolding heed
-heed-bad s line e = ap (heed s) e
+pub carried-out-bad : (s : Schedule) (line : List ℕ) → says line ≡ Bad → carriedOut s (says line) ≡ record { words = text "bad"; schedule = s }
+unfolding carriedOut
+carried-out-bad s line e = ap (carriedOut s) e
 
 -- A command leaves a good schedule,
 pub obey-good : (s : Schedule) (c : Command) → Good s → Good (obey s c .schedule)
@@ -66,10 +67,10 @@ obey-good s (Report handle sample) good = call-good s good (reports handle sampl
 obey-good s (Owner block) good = good
 obey-good s (Anchor handle block) good = good
 
-pub heed-good : (s : Schedule) (l : Line) → Good s → Good (heed s l .schedule)
-unfolding heed
-heed-good s Bad good = good
-heed-good s (Says c) good = obey-good s c good
+pub carried-out-good : (s : Schedule) (l : Line) → Good s → Good (carriedOut s l .schedule)
+unfolding carriedOut
+carried-out-good s Bad good = good
+carried-out-good s (Says c) good = obey-good s c good
 
 -- and with a refusal the same schedule.
 pub obey-refused : (s : Schedule) (c : Command) (n : ℕ) → obey s c .answer ≡ refused n → obey s c .schedule ≡ s
@@ -110,10 +111,10 @@ words-without (saved n) = worded (text "saved") (n ∷ []) refl
 words-without (loaded n) = worded (text "loaded") (n ∷ []) refl
 
 -- and neither has what a line prints.
-pub heed-without : (s : Schedule) (l : Line) → Without (byte "\n") (heed s l .words)
-unfolding heed spaced before
-heed-without s Bad = worded (text "bad") [] refl
-heed-without s (Says c) = words-without (obey s c .answer)
+pub carried-out-without : (s : Schedule) (l : Line) → Without (byte "\n") (carriedOut s l .words)
+unfolding carriedOut spaced before
+carried-out-without s Bad = worded (text "bad") [] refl
+carried-out-without s (Says c) = words-without (obey s c .answer)
 
 -- How many lines a text has: each that ends in LF, and a tail of one byte or more.
 unfoldable pub tailCount : List ℕ → ℕ
@@ -132,11 +133,11 @@ unfolding printed split tailCount
 printed-lines s [] [] = (refl, refl)
 printed-lines s [] (b ∷ bs) = (refl, refl)
 printed-lines s (line ∷ lines) tail =
-    let one = heed s (says line) in
+    let one = carriedOut s (says line) in
     let later = printed-lines (one .schedule) lines tail in
     rw (
       append-assoc (one .words) (byte "\n" ∷ printed (one .schedule) lines) (tailPrinted tail),
-      split-piece (byte "\n") (one .words) (printed (one .schedule) lines ++ tailPrinted tail) (heed-without s (says line)),
+      split-piece (byte "\n") (one .words) (printed (one .schedule) lines ++ tailPrinted tail) (carried-out-without s (says line)),
     )
     (later .0, omega (arith, later .1))
 

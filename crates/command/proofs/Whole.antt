@@ -11,7 +11,7 @@ use Rattle.rules.specs.Good.{Good, fresh}
 use Rattle.rules.specs.Text.{byte, text}
 use Rattle.rules.specs.Split.{before}
 use Rattle.rules.specs.Commands.{says}
-use Rattle.rules.specs.Program.{mostInput, mostOutput, heed, answered, program}
+use Rattle.rules.specs.Program.{mostInput, mostOutput, carriedOut, answered, program}
 use Rattle.texts.proofs.SplitLaws.{Without, before-without, before-take, before-all, before-here}
 use Rattle.command.proofs.ProgramLaws.{answered-line, answered-tail, answered-nothing, program-long, program-answered}
 use Rattle.text.specs.Promises.{Puts}
@@ -65,8 +65,8 @@ module _ (input entry exit : List ℕ) (s : Schedule) (start at : ℕ) (f : SoFa
       let d : drop (suc (length line)) (drop start input) ≡ drop (stop + 1) input = drop-drop (suc (length line)) start input ∙ ap (λ (k : ℕ). drop k input) past in
       let whole : drop start input ≡ line ++ byte "\n" ∷ drop (stop + 1) input = before-here (byte "\n") (drop start input) within ∙ ap (λ (x : List ℕ). line ++ byte "\n" ∷ x) d in
       let k : Carries s line exit at later r = subst (λ (x : List ℕ). Carries s x exit at later r) e c in
-      let words = heed s (says line) .words in
-      let next = heed s (says line) .schedule in
+      let words = carriedOut s (says line) .words in
+      let next = carriedOut s (says line) .schedule in
       record {
         here = omega arith;
         good = k .good;

@@ -16,8 +16,9 @@ use Rattle.rules.specs.declared.Command.the-variants.{Admit, Drop, Report, Owne
 use Rattle.rules.specs.declared.Obeyed.{Obeyed}
 use Rattle.rules.specs.Good.{Good}
 use Rattle.rules.specs.Answers.{ofObeyed}
+use Rattle.rules.specs.Obey.{obey}
 use Rattle.rules.specs.Commands.{says}
-use Rattle.rules.specs.Program.{mostOutput, obey, heed, program}
+use Rattle.rules.specs.Program.{mostOutput, carriedOut, program}
 use Rattle.text.specs.Promises.{Puts}
 use Rattle.line.specs.Promises.{PutsLine}
 use Rattle.command.specs.declared.Carried.{Carried}
@@ -39,8 +40,8 @@ pub record Obeys (s : Schedule) (c : Command) (r : Obeyed) : Type 0 where
 
 -- A line is carried out: its words are put, and its schedule is left. They are at most four bytes for each of its own.
 pub record Carries (s : Schedule) (line entry : List ℕ) (at : ℕ) (exit : List ℕ) (r : Carried) : Type 0 where
-  pub prints : PutsLine entry at (heed s (says line) .words) exit (r .at)
-  pub leaves : r .schedule ≡ heed s (says line) .schedule
+  pub prints : PutsLine entry at (carriedOut s (says line) .words) exit (r .at)
+  pub leaves : r .schedule ≡ carriedOut s (says line) .schedule
   pub good : Good (r .schedule)
   pub room : r .at ≤ at + 4 * (length line + 1)
 

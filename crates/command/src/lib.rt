@@ -4,8 +4,8 @@ mod obeying;
 mod running;
 
 pub use obeying::obey;
+use rules::MOST_OUTPUT;
 use rules::Schedule;
-pub use running::carry_out;
 pub use running::run;
 
 /// The schedule after a line, and the place after what it printed.
@@ -16,6 +16,6 @@ pub struct Carried {
 
 /// The bytes that an input prints, from the start, and how many they are.
 pub struct Output {
-    pub bytes: [u8; 16384],
+    pub bytes: [u8; MOST_OUTPUT],
     pub count: usize,
 }

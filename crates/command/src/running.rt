@@ -10,13 +10,15 @@ use crate::obeying::obey;
 use line::put_reply;
 use line::says;
 use rules::Line;
+use rules::MOST_INPUT;
+use rules::MOST_OUTPUT;
 use rules::Schedule;
 use schedule::fresh;
 use text::find;
 use text::put_word;
 
-/// Carries a line out, and writes what it prints.
-pub fn carry_out(s: Schedule, line: &[u8], out: &mut [u8], at: usize) -> Carried
+// Carries a line out, and writes what it prints.
+fn carry_out(s: Schedule, line: &[u8], out: &mut [u8], at: usize) -> Carried
     requires { ⌜ Good s × (at + 4 * (length (now line) + 1) ≤ length (now out)) ⌝ }
     ensures { λ r. ⌜ Carries s (now (line .entry)) (now (out .entry)) at (now (out .exit)) r ⌝ }
 {
@@ -35,12 +37,12 @@ pub fn carry_out(s: Schedule, line: &[u8], out: &mut [u8], at: usize) -> Carried
     }
 }
 
-// Writes what the input prints from the buffer's start, and answers how many bytes that is.
-fn print(input: &[u8], out: &mut [u8]) -> usize
+// Answers every line of the input: writes what it prints from the buffer's start; then comes how many bytes that is.
+fn answer_all(input: &[u8], out: &mut [u8]) -> usize
     requires { ⌜ mostOutput ≤ length (now out) ⌝ }
     ensures { λ r. ⌜ Prints (now (input .entry)) (now (out .entry)) (now (out .exit)) r ⌝ }
 {
-    if 4096 < input.len() {
+    if MOST_INPUT < input.len() {
         return put_word(out, 0, b"long\n");
     }
     let mut s = fresh();
@@ -63,7 +65,7 @@ fn print(input: &[u8], out: &mut [u8]) -> usize
 pub fn run(input: &[u8]) -> Output
     ensures { λ r. ⌜ Runs (now (input .entry)) r ⌝ }
 {
-    let mut bytes = [0u8; 16384];
-    let count = print(input, &mut bytes);
+    let mut bytes = [0u8; MOST_OUTPUT];
+    let count = answer_all(input, &mut bytes);
     Output { bytes, count }
 }

@@ -28,7 +28,7 @@ module _ (s : Schedule) (before after : List ℕ) where
   size-fits good a p n e =
       decided-cases (λ (w : Written). w .answer ≡ saved n → n < 2 ^ 32) (saveChecks s before) (λ m. record { answer = refused m; buffer = before }) (saveDone s before)
       (λ m q. let z : _≡_ {A = ℕ} 0 1 = cc in absurd (omega arith))
-      (λ d q. omega (arith, same-size q, image-bounds (s .connections) (good .places) .1))
+      (λ d q. omega (arith, same-size q, image-bounds s (good .places) .1))
       (sym (ap (λ (w : Written). w .answer) p) ∙ ap ofSaving e)
 
   pub writes : (a b : Saving) (r : Said) → Saves s before after a → a ≡ b → Says (ofSaving b) r → Writes (save s before) after r

@@ -3,7 +3,7 @@
 ghost use mathlib.Core.Path.{_≡_};
 ghost use Rattle.rules.specs.Good.{Good, fresh as freshRule};
 ghost use Rattle.rules.specs.Admit.{admit as admitRule};
-ghost use Rattle.rules.specs.Drop.{drop as dropRule};
+ghost use Rattle.rules.specs.Drop.{dropHandle};
 ghost use Rattle.rules.specs.Report.{report as reportRule};
 ghost use Rattle.door.specs.Promises.{Leaves};
 use crate::Called;
@@ -47,7 +47,7 @@ pub extern "C" fn beak_admitted(
 #[no_mangle]
 pub extern "C" fn beak_dropped(s: Schedule, handle: u32) -> Called
     requires { ⌜ Good s ⌝ }
-    ensures { λ r. ⌜ Leaves (dropRule s handle) r ⌝ }
+    ensures { λ r. ⌜ Leaves (dropHandle s handle) r ⌝ }
 {
     let done = drop(s, handle);
     let answer = done.answer;

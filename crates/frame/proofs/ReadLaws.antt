@@ -1,97 +1,130 @@
 -- The laws of the reading of an image's frame.
-use mathlib.Core.Path.{_≡_, sym, ap, _∙_, subst}
+use mathlib.Core.Path.{_≡_, refl, sym, ap, ap₂, _∙_, subst}
+use mathlib.Core.Bool.{Bool, true, false, _&&_, false≢true}
 use mathlib.Core.Logic.{by-cases}
-use mathlib.Core.List.{List}
-use Prim.Native.Nat.{ℕ, _+_, _*_, _<_, _≤_}
-use native.Mathlib.Decide.{ℕ-discrete}
+use mathlib.Core.List.{List, [], _∷_}
+use Prim.Native.Nat.{ℕ, suc, _+_, _-_, _<_, _≤_}
+use native.Mathlib.Decide.{decLe}
 use native.Mathlib.Omega.{arith}
-use lib.ListN.{length, take, drop}
-use Rattle.rules.specs.declared.Refusal.the-variants.{RecordsWrong}
-use Rattle.rules.specs.Refusals.{number}
+use lib.ListN.{length, getD, take, drop, replicate, length-drop}
+use lib.Seq.{drop-cons, drop-drop, drop-length}
+use Rattle.rules.specs.Ownership.{handles}
 use Rattle.rules.specs.Bytes.{littleNumber}
-use Rattle.rules.specs.Steps.{gives, refuses}
-use Rattle.rules.specs.LoadSteps.{frameStep, FramedAt}
-use Rattle.basics.proofs.BytesLaws.{AllBytes}
-use Rattle.images.proofs.FrameLaws.{frame-counts, frame-wrong}
-use Rattle.frame.specs.Promises.{RecordAt, ConnectionsAt}
+use Rattle.rules.specs.Records.{piecesOf}
+use Rattle.rules.specs.Form.{Head, countKind, countSize, connectionKind, connectionSize, treeKind, treeSize, headed, form}
+use Rattle.rules.specs.Framing.{countIn, recordsAre, recordsWrong, Framed}
+use Rattle.basics.proofs.BoolLaws.{both, is-false}
+use Rattle.basics.proofs.BytesLaws.{AllBytes, bytes-drop}
+use Rattle.images.proofs.FormLaws.{headed-exactly}
+use Rattle.images.proofs.FrameLaws.{headFrom, are-step, are-short, are-none, are-over, count-first, framed-are, wrong-are, wrong-many}
+use Rattle.frame.specs.Promises.{Says, connectionsThen}
 
 -- A place has one kind and one size.
-pub one-kind : (bytes : List ℕ) (at k s kind size : ℕ) → RecordAt bytes at k s → RecordAt bytes at kind size → (k ≡ kind) × (s ≡ size)
+pub one-kind : (bytes : List ℕ) (at k s kind size : ℕ) → Says bytes at k s → Says bytes at kind size → (k ≡ kind) × (s ≡ size)
 one-kind bytes at k s kind size p q = (sym (p .kind-is) ∙ q .kind-is, sym (p .size-is) ∙ q .size-is)
 
 -- A record of the kind and the size that are asked for is passed.
-pub passed : (bytes : List ℕ) (at k s kind size next : ℕ) → RecordAt bytes at k s × (next ≡ at + (4 + s)) → k ≡ kind → s ≡ size → RecordAt bytes at kind size × (next ≡ at + (4 + size))
+pub passed : (bytes : List ℕ) (at k s kind size next : ℕ) → Says bytes at k s × (next ≡ at + (4 + s)) → k ≡ kind → s ≡ size → Says bytes at kind size × (next ≡ at + (4 + size))
 passed bytes at k s kind size next p ek es = (record { kind-is = p .0 .kind-is ∙ ek; size-is = p .0 .size-is ∙ es; fits = omega (arith, p .0 .fits) }, omega (arith, p .1))
 
--- One connection more.
-pub connections-more : (bytes : List ℕ) (at n cursor : ℕ) → ConnectionsAt bytes at n → cursor ≡ at + 18 * n → RecordAt bytes cursor 2 14 → ConnectionsAt bytes at (n + 1)
-connections-more bytes at n cursor each e r i l =
-    by-cases (ℕ-discrete i n)
-    (λ q. let p : cursor ≡ at + 18 * i = omega arith in subst (λ (x : ℕ). RecordAt bytes x 2 14) p r)
-    (λ q. each i (omega arith))
+-- What is asked for after the connections.
+abbrev treeForm : List (Head → Bool)
+treeForm = headed treeKind treeSize ∷ []
 
--- ---- the frame, by its records
-module _ (bytes : List ℕ) where
-  -- The first record, and the connections' and the tree's of a frame for n.
-  framed-first : (n : ℕ) → FramedAt bytes n → RecordAt bytes 0 1 2
-  framed-first n f = record { kind-is = f .first .1; size-is = f .first .0; fits = omega (arith, f .long) }
+-- Of n records of connections, i are passed, and the cursor is after them.
+abbrev pub PassedSoFar : List ℕ → ℕ → ℕ → ℕ → ℕ → Type 0
+PassedSoFar bytes at n i cursor = (later : List (Head → Bool)) → recordsAre (connectionsThen n later) (drop at bytes) ≡ recordsAre (connectionsThen (n - i) later) (drop cursor bytes)
 
-  framed-each : (n : ℕ) → FramedAt bytes n → ConnectionsAt bytes 6 n
-  framed-each n f i l =
-      let e : 8 + 18 * i ≡ 6 + 18 * i + 2 = omega arith in
-      let g = f .each i l in
-      record { kind-is = ap (λ (j : ℕ). littleNumber (take 2 (drop j bytes))) (sym e) ∙ g .1; size-is = g .0; fits = omega (arith, f .long) }
+module _ (bytes : List ℕ) (small : AllBytes bytes) where
+  -- ---- one record
+  module _ (at kind size : ℕ) (later : List (Head → Bool)) where
+    whole : 4 + headFrom (drop at bytes) .size ≤ length (drop at bytes)
+        → recordsAre (headed kind size ∷ later) (drop at bytes) ≡ headed kind size (headFrom (drop at bytes)) && recordsAre later (drop (4 + headFrom (drop at bytes) .size) (drop at bytes))
+    whole = are-step (drop at bytes) (bytes-drop at bytes small) (headed kind size) later
 
-  framed-last : (n : ℕ) → FramedAt bytes n → RecordAt bytes (6 + 18 * n) 3 128
-  framed-last n f =
-      let e : 8 + 18 * n ≡ 6 + 18 * n + 2 = omega arith in
-      record { kind-is = ap (λ (j : ℕ). littleNumber (take 2 (drop j bytes))) (sym e) ∙ f .last .1; size-is = f .last .0; fits = omega (arith, f .long) }
+    kind-at : headFrom (drop at bytes) .kind ≡ littleNumber (take 2 (drop (at + 2) bytes))
+    kind-at = ap (λ (d : List ℕ). littleNumber (take 2 d)) (drop-drop 2 at bytes)
 
-  module _ (small : AllBytes bytes) where
-    -- Each reason to refuse.
-    pub wrong-first : (RecordAt bytes 0 1 2 → ⊥) → refuses (number RecordsWrong) ≡ frameStep bytes
-    wrong-first none = frame-wrong bytes small (λ n f. none (framed-first n f))
+    -- It is there: it is up to those after it.
+    pub one-there : (next : ℕ) → Says bytes at kind size × (next ≡ at + (4 + size)) → recordsAre (headed kind size ∷ later) (drop at bytes) ≡ recordsAre later (drop next bytes)
+    one-there next p =
+        let d = drop at bytes in
+        let s : headFrom d .size ≡ size = p .0 .size-is in
+        let room : 4 + headFrom d .size ≤ length d = simp length-drop (omega (arith, p .0 .fits)) in
+        let q : at + (4 + headFrom d .size) ≡ next = omega (arith, p .1) in
+        whole room
+        ∙ ap (λ (v : Bool). v && recordsAre later (drop (4 + headFrom d .size) d)) (headed-exactly kind size (headFrom d) .1 (record { kind-is = kind-at ∙ p .0 .kind-is; size-is = s }))
+        ∙ ap (recordsAre later) (drop-drop (4 + headFrom d .size) at bytes ∙ ap (λ (k : ℕ). drop k bytes) q)
 
-    -- n is what the bytes count.
-    module _ (n : ℕ) (count : n ≡ littleNumber (take 2 (drop 4 bytes))) where
-      counted : (m : ℕ) → FramedAt bytes m → m ≡ n
-      counted m f = sym (f .count) ∙ sym count
+    -- It is not there.
+    pub one-missing : (Says bytes at kind size → ⊥) → recordsAre (headed kind size ∷ later) (drop at bytes) ≡ false
+    one-missing none =
+        let d = drop at bytes in
+        is-false (recordsAre (headed kind size ∷ later) d) (λ e.
+        by-cases (decLe (4 + headFrom d .size) (length d))
+        (λ l.
+        let h = headed-exactly kind size (headFrom d) .0 (both (headed kind size (headFrom d)) _ (sym (whole l) ∙ e) .0) in
+        none (record { kind-is = sym kind-at ∙ h .kind-is; size-is = h .size-is; fits = omega (arith, length-drop at bytes, h .size-is) }))
+        (λ l. false≢true (sym (are-short d (bytes-drop at bytes small) (headed kind size) later (omega arith)) ∙ e)))
 
-      for-n : (FramedAt bytes n → ⊥) → refuses (number RecordsWrong) ≡ frameStep bytes
-      for-n none = frame-wrong bytes small (λ m f. none (subst (λ (x : ℕ). FramedAt bytes x) (counted m f) f))
+  -- ---- the connections, one after the other
+  pub connections-none : (at n : ℕ) → PassedSoFar bytes at n 0 at
+  connections-none at n later =
+      let e : n ≡ n - 0 = omega arith in
+      ap (λ (m : ℕ). recordsAre (connectionsThen m later) (drop at bytes)) e
 
-      pub wrong-count : 64 < n → refuses (number RecordsWrong) ≡ frameStep bytes
-      wrong-count l = for-n (λ f. omega (arith, f .most))
+  pub connections-all : (at n i cursor : ℕ) → n ≤ i → PassedSoFar bytes at n i cursor → (later : List (Head → Bool)) → recordsAre (connectionsThen n later) (drop at bytes) ≡ recordsAre later (drop cursor bytes)
+  connections-all at n i cursor l t later =
+      let e : n - i ≡ 0 = omega arith in
+      t later ∙ ap (λ (m : ℕ). recordsAre (connectionsThen m later) (drop cursor bytes)) e
 
-      module _ (start : ℕ) (begun : start ≡ 6) where
-        pub wrong-connections : (ConnectionsAt bytes start n → ⊥) → refuses (number RecordsWrong) ≡ frameStep bytes
-        wrong-connections none = for-n (λ f. rw begun at none (framed-each n f))
+  module _ (at n i cursor : ℕ) (l : i < n) (t : PassedSoFar bytes at n i cursor) where
+    next-asked : n - i ≡ suc (n - (i + 1))
+    next-asked = omega arith
 
-        module _ (end : ℕ) (ended : end ≡ start + 18 * n) where
-          place : end ≡ 6 + 18 * n
-          place = omega arith
+    begun : (later : List (Head → Bool)) → recordsAre (connectionsThen n later) (drop at bytes) ≡ recordsAre (headed connectionKind connectionSize ∷ connectionsThen (n - (i + 1)) later) (drop cursor bytes)
+    begun later = t later ∙ ap (λ (m : ℕ). recordsAre (connectionsThen m later) (drop cursor bytes)) next-asked
 
-          pub wrong-last : (RecordAt bytes end 3 128 → ⊥) → refuses (number RecordsWrong) ≡ frameStep bytes
-          wrong-last none = for-n (λ f. none (subst (λ (x : ℕ). RecordAt bytes x 3 128) (sym place) (framed-last n f)))
+    pub connections-more : (next : ℕ) → Says bytes cursor connectionKind connectionSize × (next ≡ cursor + (4 + connectionSize)) → PassedSoFar bytes at n (i + 1) next
+    connections-more next p later = begun later ∙ one-there cursor connectionKind connectionSize (connectionsThen (n - (i + 1)) later) next p
 
-          pub wrong-end : (end + 132 ≡ length bytes → ⊥) → refuses (number RecordsWrong) ≡ frameStep bytes
-          wrong-end none = for-n (λ f. none (omega (arith, f .long)))
+    pub connections-missing : (Says bytes cursor connectionKind connectionSize → ⊥) → (later : List (Head → Bool)) → recordsAre (connectionsThen n later) (drop at bytes) ≡ false
+    connections-missing none later = begun later ∙ one-missing cursor connectionKind connectionSize (connectionsThen (n - (i + 1)) later) none
 
-          -- Every record is there, and nothing is left over.
-          pub right : n ≤ 64 → RecordAt bytes 0 1 2 → ConnectionsAt bytes start n → RecordAt bytes end 3 128 → end + 132 ≡ length bytes → gives n ≡ frameStep bytes
-          right most first each last over =
-              let at : (i : ℕ) → 6 + 18 * i + 2 ≡ 8 + 18 * i = λ i. omega arith in
-              frame-counts bytes n small
-              (record {
-                most = most;
-                long = omega arith;
-                first = (first .size-is, first .kind-is);
-                count = sym count;
-                each = λ i l.
-                    let e : start + 18 * i ≡ 6 + 18 * i = omega arith in
-                    let r = subst (λ (x : ℕ). RecordAt bytes x 2 14) e (each i l) in
-                    (r .size-is, ap (λ (j : ℕ). littleNumber (take 2 (drop j bytes))) (sym (at i)) ∙ r .kind-is);
-                last =
-                    let r = subst (λ (x : ℕ). RecordAt bytes x 3 128) place last in
-                    (r .size-is, ap (λ (j : ℕ). littleNumber (take 2 (drop j bytes))) (sym (at n)) ∙ r .kind-is);
-              })
+  -- ---- the frame, record by record: each reason to refuse
+  pub wrong-first : (Says bytes 0 countKind countSize → ⊥) → recordsWrong bytes ≡ true
+  wrong-first none = wrong-are bytes (countIn (piecesOf bytes)) refl (one-missing 0 countKind countSize (connectionsThen (countIn (piecesOf bytes)) treeForm) none)
+
+  -- The first record is there, and n is what it counts.
+  module _ (start n : ℕ) (first : Says bytes 0 countKind countSize × (start ≡ 0 + (4 + countSize))) (says : n ≡ littleNumber (take 2 (drop 4 bytes))) where
+    counted : countIn (piecesOf bytes) ≡ n
+    counted = count-first bytes (first .0 .size-is) ∙ sym says
+
+    after-first : recordsAre (form n) bytes ≡ recordsAre (connectionsThen n treeForm) (drop start bytes)
+    after-first = one-there 0 countKind countSize (connectionsThen n treeForm) start first
+
+    pub wrong-count : handles < n → recordsWrong bytes ≡ true
+    wrong-count l = wrong-many bytes n counted l
+
+    pub wrong-connections : ((later : List (Head → Bool)) → recordsAre (connectionsThen n later) (drop start bytes) ≡ false) → recordsWrong bytes ≡ true
+    wrong-connections none = wrong-are bytes n counted (after-first ∙ none treeForm)
+
+    -- So are the connections'.
+    module _ (end : ℕ) (each : (later : List (Head → Bool)) → recordsAre (connectionsThen n later) (drop start bytes) ≡ recordsAre later (drop end bytes)) where
+      pub wrong-last : (Says bytes end treeKind treeSize → ⊥) → recordsWrong bytes ≡ true
+      wrong-last none = wrong-are bytes n counted (after-first ∙ each treeForm ∙ one-missing end treeKind treeSize [] none)
+
+      -- And the tree's.
+      module _ (over : ℕ) (last : Says bytes end treeKind treeSize × (over ≡ end + (4 + treeSize))) where
+        after-last : recordsAre (form n) bytes ≡ recordsAre [] (drop over bytes)
+        after-last = after-first ∙ each treeForm ∙ one-there end treeKind treeSize [] over last
+
+        pub wrong-end : (over ≡ length bytes → ⊥) → recordsWrong bytes ≡ true
+        wrong-end more =
+            let l : over < length bytes = omega (arith, last .0 .fits, last .1, more) in
+            wrong-are bytes n counted (after-last ∙ ap (recordsAre []) (drop-cons bytes over 0 l) ∙ are-over (getD bytes over 0) (drop (suc over) bytes))
+
+        -- Nothing is left over.
+        pub right : n ≤ handles → over ≡ length bytes → Framed bytes n
+        right most whole-read =
+            framed-are bytes n counted most (after-last ∙ ap (λ (k : ℕ). recordsAre [] (drop k bytes)) whole-read ∙ ap (recordsAre []) (drop-length bytes) ∙ are-none)

@@ -1,10 +1,15 @@
 //! Check 9 of a load: the bytes are an image's records one after the other.
-ghost use mathlib.Core.Path.{_≡_};
 ghost use Prim.Native.Nat.{_≤_};
 ghost use lib.ListN.{length};
-ghost use Rattle.rules.specs.LoadSteps.{ofFrame, frameStep};
-ghost use Rattle.frame.specs.Promises.{Heads, Passes, PassesAll};
+ghost use Rattle.frame.specs.Promises.{Heads, Passes, PassesAll, ofFrame, Frames};
+use rules::CONNECTION_KIND;
+use rules::CONNECTION_SIZE;
+use rules::COUNT_KIND;
+use rules::COUNT_SIZE;
 use rules::Frame;
+use rules::HANDLES;
+use rules::TREE_KIND;
+use rules::TREE_SIZE;
 
 // The record at a cursor: its kind, the size of its payload, and the cursor after it; or bytes are missing.
 enum Header {
@@ -70,7 +75,7 @@ fn pass_connections(bytes: &[u8], at: usize, n: u32) -> After
 {
     let mut cursor = at;
     for i in 0..n {
-        let one = pass(bytes, cursor, 2, 14);
+        let one = pass(bytes, cursor, CONNECTION_KIND, CONNECTION_SIZE);
         let After::At(next) = one else {
             return After::Missing;
         };
@@ -81,21 +86,21 @@ fn pass_connections(bytes: &[u8], at: usize, n: u32) -> After
 
 /// Check 9: how many connections the bytes count, where they are an image's records one after the other.
 pub fn framed(bytes: &[u8]) -> Frame
-    ensures { λ r. ⌜ ofFrame r ≡ frameStep (now (bytes .entry)) ⌝ }
+    ensures { λ r. ⌜ Frames (now (bytes .entry)) (ofFrame r) ⌝ }
 {
-    let first = pass(bytes, 0, 1, 2);
+    let first = pass(bytes, 0, COUNT_KIND, COUNT_SIZE);
     let After::At(start) = first else {
         return Frame::Wrong;
     };
-    let n = codec::number(bytes, 4, 2);
-    if 64 < n {
+    let n = codec::number(bytes, 4, COUNT_SIZE as usize);
+    if n > HANDLES as u32 {
         return Frame::Wrong;
     }
     let each = pass_connections(bytes, start, n);
     let After::At(end) = each else {
         return Frame::Wrong;
     };
-    let last = pass(bytes, end, 3, 128);
+    let last = pass(bytes, end, TREE_KIND, TREE_SIZE);
     let After::At(over) = last else {
         return Frame::Wrong;
     };

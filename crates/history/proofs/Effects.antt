@@ -14,7 +14,7 @@ use Rattle.rules.specs.Good.{Good, scheduleOf}
 use Rattle.rules.specs.Answers.{Outcome, refusing, dropped}
 use Rattle.rules.specs.Handles.{connection, isLive}
 use Rattle.rules.specs.Admit.{kOf, newConnection, anchorFor, admitDone, admit}
-use Rattle.rules.specs.Drop.{dropDone, drop}
+use Rattle.rules.specs.Drop.{dropDone, dropHandle}
 use Rattle.rules.specs.Report.{metered, reportDone, report}
 use Rattle.rules.specs.Image.{IsImage}
 use Rattle.rules.specs.Load.{load}
@@ -94,7 +94,7 @@ module _ (s : Schedule) (good : Good s) (r : Request) (x : ℕ) where
       (rw q (set-same s good h (a .handle) _))))
       (λ q. kept (other p q) (admit-others s good h i f c x q))
 
-  dropping : (h : ℕ) → r .call ≡ Drop h → Leads (drop s h)
+  dropping : (h : ℕ) → r .call ≡ Drop h → Leads (dropHandle s h)
   unfolding dropDone
   dropping h p =
       by-cases (ℕ-discrete x h)

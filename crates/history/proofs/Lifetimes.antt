@@ -18,7 +18,7 @@ use Rattle.images.proofs.ImageLaws.{at-free}
 use Rattle.images.proofs.RoundTrip.{round-connection}
 use Rattle.history.specs.Calls.{Admit, Load, Result, ruledCall, ruled}
 use Rattle.history.specs.Runs.{Start, Fresh, startOf, Made, Run, begun as run-begun, more, now, followed, By}
-use Rattle.history.specs.Moments.{Begins, admitted, restored, Ends, drops, replaced as ends-replaced, Lasts, Unreported, Alive}
+use Rattle.history.specs.Moments.{Begins, admitted, restored, Ends, drops, replaced as ends-replaced, Lasts, Unreported, Unmoved, Alive}
 use Rattle.history.specs.Demands.{Bounded, Steady, Lives}
 use Rattle.history.proofs.Following.{now-good, result-is, earlier-by}
 use Rattle.history.proofs.Effects.{Quiet, Effect, kept, moved, begun, ended, replaced, effect}
@@ -58,9 +58,14 @@ pub steady : Steady (By ruled)
 steady earlier between x by live lasts =
     let w = lasting x earlier live between by lasts in (
       ap (λ (c : Connection). c .k) (w .but),
-      ap (λ (c : Connection). c .anchor) (w .but),
+      λ u. ap (λ (c : Connection). c .anchor) (w .but),
       λ u. (ap (λ (c : Connection). c .length) (w .unreported u), ap (λ (c : Connection). c .estimate) (w .unreported u)),
     )
+
+-- No call moves an anchor today: so it stays as long as the connection is live.
+pub unmoved : (x : ℕ) (between : List Made) → Unmoved x between
+unmoved x [] = tt
+unmoved x (m ∷ between) = (λ none. none, unmoved x between)
 
 -- ---- what begins
 -- A live connection with this floor and this ceiling.

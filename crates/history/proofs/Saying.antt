@@ -11,13 +11,14 @@ use Rattle.rules.specs.declared.Line.{Line}
 use Rattle.rules.specs.declared.Line.the-variants.{Says, Bad}
 use Rattle.rules.specs.Good.{fresh}
 use Rattle.rules.specs.Answers.{Outcome}
+use Rattle.rules.specs.Obey.{obey}
 use Rattle.rules.specs.Text.{byte, text}
 use Rattle.rules.specs.Split.{Parts, split}
 use Rattle.rules.specs.Words.{wordsOf}
 use Rattle.rules.specs.Commands.{says}
-use Rattle.rules.specs.Program.{Printed, obey, heed, printed, tailPrinted, answered, program}
+use Rattle.rules.specs.Program.{Printed, carriedOut, printed, tailPrinted, answered, program}
 use Rattle.texts.proofs.SplitLaws.{split-piece}
-use Rattle.command.proofs.ProgramLaws.{heed-without, program-answered}
+use Rattle.command.proofs.ProgramLaws.{carried-out-without, program-answered}
 use Rattle.command.specs.declared.Output.{Output}
 use Rattle.command.specs.Promises.{Runs}
 use Rattle.history.specs.Calls.{Result, beside, ruledCall, ruled}
@@ -34,10 +35,10 @@ obey-ruled s (Owner block) = refl
 obey-ruled s (Anchor handle block) = refl
 
 -- A line after a history: its words, and the schedule.
-heed-told : (h : History) (l : Line) → heed (after h) l ≡ record { words = told h l; schedule = after (heard h l) }
-unfolding heed told after
-heed-told h Bad = refl
-heed-told h (Says c) = ap (λ (t : Result). record { words = wordsOf (t .answer); schedule = t .schedule }) (sym (obey-ruled (after h) c))
+carried-out-told : (h : History) (l : Line) → carriedOut (after h) l ≡ record { words = told h l; schedule = after (heard h l) }
+unfolding carriedOut told after
+carried-out-told h Bad = refl
+carried-out-told h (Says c) = ap (λ (t : Result). record { words = wordsOf (t .answer); schedule = t .schedule }) (sym (obey-ruled (after h) c))
 
 -- The lines of the output are what is told, line by line.
 printed-told : (h : History) (lines : List (List ℕ)) (tail : List ℕ)
@@ -46,11 +47,11 @@ unfolding printed toldAll split
 printed-told h [] [] = refl
 printed-told h [] (b ∷ bs) = refl
 printed-told h (line ∷ lines) tail =
-    let one = heed (after h) (says line) in
-    let e = heed-told h (says line) in
+    let one = carriedOut (after h) (says line) in
+    let e = carried-out-told h (says line) in
     rw (
       append-assoc (one .words) (byte "\n" ∷ printed (one .schedule) lines) (tailPrinted tail),
-      split-piece (byte "\n") (one .words) (printed (one .schedule) lines ++ tailPrinted tail) (heed-without (after h) (says line)),
+      split-piece (byte "\n") (one .words) (printed (one .schedule) lines ++ tailPrinted tail) (carried-out-without (after h) (says line)),
       e,
       printed-told (heard h (says line)) lines tail,
     )

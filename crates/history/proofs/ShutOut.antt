@@ -20,7 +20,7 @@ use Rattle.images.proofs.ImageLaws.{image-bytes, at-free}
 use Rattle.history.specs.Calls.{Bytes, Call, Admit, Drop, Report, Owner, Save, Load, Lent, Request, Result, ruledCall}
 use Rattle.history.specs.Runs.{Fresh, startOf, History, begin, next, after, Made, Run, begun, more, now, historyOf, StepFunction, By}
 use Rattle.history.specs.Moments.{Ends, admitted, drops, replaced}
-use Rattle.history.specs.Demands.{ResultsGiven, ConnectionsGiven, RoomExact, RestoreExact, Demand2, countFrom, Counted, Apart, Lives, Demand3}
+use Rattle.history.specs.Demands.{ResultsGiven, ConnectionsGiven, RoomExact, RestoreExact, Demand2, countFrom, Counted, ApartEver, Lives, Demand3}
 use Rattle.history.specs.Versions.{RefusesAll, anchorsZero, doesNothing, inventsAnswers, makesUpLength, endsAnother, startsAtZero, forgetsEstimate, neverGrows, losesBackups, refusesWithOne}
 
 -- ---- runs of a version
@@ -113,7 +113,7 @@ anchors-zero-answers results =
     omega arith
 
 -- Block 0 belongs to both.
-pub anchors-zero-apart : Apart (By anchorsZero) → ⊥
+pub anchors-zero-apart : ApartEver (By anchorsZero) → ⊥
 unfolding ran ruledCall owns
 anchors-zero-apart apart =
     let h = next (next start (single 0)) (single 1) in

@@ -5,7 +5,7 @@ use lib.ListN.{getD}
 use Rattle.rules.specs.declared.Schedule.{Schedule}
 use Rattle.rules.specs.Answers.{Answer, Outcome}
 use Rattle.rules.specs.Admit.{admit}
-use Rattle.rules.specs.Drop.{drop}
+use Rattle.rules.specs.Drop.{dropHandle}
 use Rattle.rules.specs.Report.{report}
 use Rattle.rules.specs.Owner.{ownerOf}
 use Rattle.rules.specs.Anchor.{anchor}
@@ -51,9 +51,9 @@ asked lent s a = record { answer = a; schedule = s; lent = lent }
 
 -- The rule sheet's own step: what its definitions give for a call.
 unfoldable pub ruledCall : Schedule → Call → Lent → Result
-unfolding admit drop report ownerOf anchor save load
+unfolding admit dropHandle report ownerOf anchor save load
 ruledCall s (Admit handle interval floor ceiling) lent = beside lent (admit s handle interval floor ceiling)
-ruledCall s (Drop handle) lent = beside lent (drop s handle)
+ruledCall s (Drop handle) lent = beside lent (dropHandle s handle)
 ruledCall s (Report handle sample) lent = beside lent (report s handle sample)
 ruledCall s (Owner block) lent = asked lent s (ownerOf s block)
 ruledCall s (Anchor handle block) lent = asked lent s (anchor s handle block)

@@ -11,7 +11,8 @@ use Rattle.rules.specs.declared.Distance.{Distance}
 use Rattle.rules.specs.declared.Saving.{Saving}
 use Rattle.rules.specs.declared.Loaded.{Loaded}
 use Rattle.rules.specs.Answers.{ofAdmitted, ofDropped, ofReported, ofOwnership, ofDistance, ofSaving, ofLoaded}
-use Rattle.schedule.specs.Promises.{Starts, Admits, Drops, Reports}
+use Rattle.run.specs.Promises.{Starts}
+use Rattle.schedule.specs.Promises.{Admits, Drops, Reports}
 use Rattle.questions.specs.Promises.{OwnerSays, AnchorSays}
 use Rattle.image.specs.Promises.{Saves, Loads}
 use Rattle.history.specs.Calls.{Call, Admit, Drop, Report, Owner, Anchor, Save, Load, Lent, Result, beside, asked, ruled}

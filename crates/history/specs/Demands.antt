@@ -21,7 +21,7 @@ use Rattle.rules.specs.Image.{image, IsImage}
 use Rattle.rules.specs.Answers.{Answer, refused, ok, saved, loaded}
 use Rattle.history.specs.Calls.{Bytes, Save, Request, Result, ruled}
 use Rattle.history.specs.Runs.{Start, after, Made, Run, begun, more, now, historyOf, followed, System}
-use Rattle.history.specs.Moments.{AdmissionOf, Placed, RestoreOf, Lasts, Unreported, Alive}
+use Rattle.history.specs.Moments.{AdmissionOf, Placed, RestoreOf, Lasts, Unreported, Unmoved, Alive}
 
 -- Block b belongs to the live connection of handle x: what all that follows says of blocks goes through this.
 abbrev pub has : Schedule → ℕ → ℕ → Bool
@@ -74,9 +74,9 @@ ResultsGiven S = (run : Run) (m : Made) → S (more run m) → (m .result .answe
 
 -- and of each handle: it is live in one exactly if in the other, and then has its factor, anchor, length, floor, ceiling and estimate.
 -- What stands in a free slot is nobody's business.
-pub record Alike (mine given : Connection) : Type 0 where
-  pub live : mine .live ≡ given .live
-  pub numbers : given .live ≡ true → mine ≡ given
+pub record Alike (mine sheets : Connection) : Type 0 where
+  pub live : mine .live ≡ sheets .live
+  pub numbers : sheets .live ≡ true → mine ≡ sheets
 
 abbrev pub ConnectionsGiven : System → Type 0
 ConnectionsGiven S = (run : Run) (x : ℕ) → S run → Alike (connection (now run) x) (connection (after (historyOf run)) x)
@@ -173,8 +173,8 @@ Near S =
     × (has (now run) x b ≡ true → d ≡ 0)
 
 -- "No block belongs to two connections."
-abbrev pub Apart : System → Type 0
-Apart S = (run : Run) (x y b : ℕ) → S run → has (now run) x b ≡ true → has (now run) y b ≡ true → x ≡ y
+abbrev pub ApartEver : System → Type 0
+ApartEver S = (run : Run) (x y b : ℕ) → S run → has (now run) x b ≡ true → has (now run) y b ≡ true → x ≡ y
 
 -- "L stays between the floor and ceiling it was admitted or restored with."
 abbrev pub Bounded : System → Type 0
@@ -187,7 +187,7 @@ abbrev pub Steady : System → Type 0
 Steady S =
     (earlier : Run) (between : List Made) (x : ℕ) → S (followed earlier between) → isLive (now earlier) x ≡ true → Lasts x between
     → (connection (now (followed earlier between)) x .k ≡ connection (now earlier) x .k)
-    × (connection (now (followed earlier between)) x .anchor ≡ connection (now earlier) x .anchor)
+    × (Unmoved x between → connection (now (followed earlier between)) x .anchor ≡ connection (now earlier) x .anchor)
     × (Unreported x between
     → (connection (now (followed earlier between)) x .length ≡ connection (now earlier) x .length)
     × (connection (now (followed earlier between)) x .estimate ≡ connection (now earlier) x .estimate))
@@ -200,7 +200,7 @@ Lives S = (run : Run) (x : ℕ) → S run → (isLive (now run) x ≡ true) ↔ 
 pub record Demand3 (S : System) : Type 0 where
   pub counted : Counted S
   pub near : Near S
-  pub apart : Apart S
+  pub apart : ApartEver S
   pub bounded : Bounded S
   pub steady : Steady S
   pub lives : Lives S

@@ -25,6 +25,10 @@ DropOf call x = call ≡ Drop x
 abbrev pub ReportOf : Call → ℕ → Type 0
 ReportOf call x = (sample : ℕ) × (call ≡ Report x sample)
 
+-- what moves its anchor, and does not end it: no call,
+abbrev pub MoveOf : Call → ℕ → Type 0
+MoveOf call x = ⊥
+
 -- a restore of bytes.
 abbrev pub RestoreOf : Call → Bytes → Type 0
 RestoreOf call bytes = call ≡ Load bytes
@@ -63,6 +67,10 @@ Lasts x between = Never (λ m. Ends m x) between
 -- No call between is a report of x.
 abbrev pub Unreported : ℕ → List Made → Type 0
 Unreported x between = Never (λ m. ReportOf (m .request .call) x) between
+
+-- No call between moves its anchor.
+abbrev pub Unmoved : ℕ → List Made → Type 0
+Unmoved x between = Never (λ m. MoveOf (m .request .call) x) between
 
 -- A call begins x, and none ends it up to the end of the run.
 pub record Alive (x floor ceiling : ℕ) (run : Run) : Type 0 where

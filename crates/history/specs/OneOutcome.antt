@@ -12,7 +12,8 @@ use Rattle.rules.specs.declared.Ownership.{Ownership}
 use Rattle.rules.specs.declared.Distance.{Distance}
 use Rattle.rules.specs.declared.Saving.{Saving}
 use Rattle.rules.specs.declared.Loaded.{Loaded}
-use Rattle.schedule.specs.Promises.{Starts, Admits, Drops, Reports}
+use Rattle.run.specs.Promises.{Starts}
+use Rattle.schedule.specs.Promises.{Admits, Drops, Reports}
 use Rattle.questions.specs.Promises.{OwnerSays, AnchorSays}
 use Rattle.image.specs.Promises.{Saves, Loads}
 use Rattle.command.specs.declared.Output.{Output}

@@ -8,12 +8,12 @@ use lib.ListN.{set, getD, length, replicate}
 use Rattle.rules.specs.declared.Schedule.{Schedule}
 use Rattle.rules.specs.declared.Connection.{Connection}
 use Rattle.rules.specs.declared.Refusal.the-variants.{HandleAbove63}
-use Rattle.rules.specs.Good.{scheduleOf}
+use Rattle.rules.specs.Good.{withConnection}
 use Rattle.rules.specs.Refusals.{number}
 use Rattle.rules.specs.Handles.{connection, isLive}
 use Rattle.rules.specs.Answers.{Answer, refused, ok, dropped, kept, grown, shrunk, tight, owner, idle, slots, saved, loaded}
 use Rattle.rules.specs.Admit.{kOf, newConnection}
-use Rattle.rules.specs.Drop.{drop}
+use Rattle.rules.specs.Drop.{dropHandle}
 use Rattle.rules.specs.Report.{metered}
 use Rattle.history.specs.Calls.{Bytes, Call, Admit, Drop, Report, Owner, Anchor, Save, Load, Lent, Request, Result, ruledCall, ruled}
 use Rattle.history.specs.Runs.{StepFunction}
@@ -85,14 +85,10 @@ leaving s it = record { answer = it .answer; schedule = s; lent = it .lent }
 abbrev saying : Answer → Result → Result
 saying a it = record { answer = a; schedule = it .schedule; lent = it .lent }
 
--- The schedule with another connection at a handle.
-abbrev with : Schedule → ℕ → Connection → Schedule
-with s x c = scheduleOf (set (s .connections) x c)
-
 -- An accepted admission leaves another connection than it should.
 abbrev storing : (Connection → Connection) → StepFunction
 storing change s r =
-    onAdmit (λ x i floor ceiling it. cond (accepted (it .answer)) (leaving (with (it .schedule) x (change (connection (it .schedule) x))) it) it)
+    onAdmit (λ x i floor ceiling it. cond (accepted (it .answer)) (leaving (withConnection (it .schedule) x (change (connection (it .schedule) x))) it) it)
     (r .call) (ruled s r)
 
 -- ---- the rule sheet's six
@@ -104,7 +100,7 @@ RefusesAll step = (s : Schedule) (r : Request) → (n : ℕ) × (step s r .answe
 abbrev pub anchorsZero : StepFunction
 anchorsZero s r =
     onAdmit (λ x i floor ceiling it.
-    cond (accepted (it .answer)) (saying (ok (2 ^ kOf i) 0 floor) (leaving (with s x (newConnection (kOf i) 0 floor ceiling)) it)) it)
+    cond (accepted (it .answer)) (saying (ok (2 ^ kOf i) 0 floor) (leaving (withConnection s x (newConnection (kOf i) 0 floor ceiling)) it)) it)
     (r .call) (ruled s r)
 
 -- "one that does nothing on report or drop"
@@ -122,7 +118,7 @@ makesUpLength = storing (λ c. metered c 1000 (c .estimate))
 
 -- "one that ends a connection nobody dropped": whoever asks for an owner ends handle 0's.
 abbrev pub endsAnother : StepFunction
-endsAnother s r = onOwner (leaving (drop s 0 .schedule)) (r .call) (ruled s r)
+endsAnother s r = onOwner (leaving (dropHandle s 0 .schedule)) (r .call) (ruled s r)
 
 -- ---- nearly as it should be
 -- An admission stores estimate 0.
@@ -133,7 +129,7 @@ startsAtZero = storing (λ c. metered c (c .length) 0)
 abbrev pub forgetsEstimate : StepFunction
 forgetsEstimate s r =
     onReport
-    (λ x it. leaving (with (it .schedule) x (metered (connection (it .schedule) x) (connection (it .schedule) x .length) (connection s x .estimate))) it)
+    (λ x it. leaving (withConnection (it .schedule) x (metered (connection (it .schedule) x) (connection (it .schedule) x .length) (connection s x .estimate))) it)
     (r .call) (ruled s r)
 
 -- An admission stores the floor in the place of the ceiling.

@@ -1,5 +1,5 @@
 -- What the calls on images promise.
-use Prim.Native.Nat.{ℕ, _+_, _*_}
+use Prim.Native.Nat.{ℕ, _+_}
 use mathlib.Core.Path.{_≡_}
 use mathlib.Core.List.{List}
 use lib.ListN.{length}
@@ -10,18 +10,20 @@ use Rattle.rules.specs.declared.Saving.{Saving}
 use Rattle.rules.specs.declared.Loaded.{Loaded}
 use Rattle.rules.specs.Good.{Good}
 use Rattle.rules.specs.Answers.{ofSaving, ofLoaded}
-use Rattle.rules.specs.Image.{Piece, joined, connectionPieces}
+use Rattle.rules.specs.Records.{Piece, joined}
+use Rattle.rules.specs.Form.{treeKind}
+use Rattle.rules.specs.Image.{connectionPieces}
 use Rattle.rules.specs.Save.{Written, save}
 use Rattle.rules.specs.Load.{load}
 
 -- The record of a tree's bytes.
 abbrev pub treeRecord : List ℕ → Piece
-treeRecord bytes = record { kind = 3; payload = bytes }
+treeRecord bytes = record { kind = treeKind; payload = bytes }
 
 -- The records of the connections, one after the other, and where the next begins.
 pub record PutsConnections (at : ℕ) (cs : List Connection) (before after : List ℕ) (next : ℕ) : Type 0 where
   pub bytes : after ≡ sets before at (joined (connectionPieces 0 cs))
-  pub ends : next ≡ at + 18 * length (connectionPieces 0 cs)
+  pub ends : next ≡ at + length (joined (connectionPieces 0 cs))
 
 -- Save: the answer and every byte of the buffer are what the rule gives for the inputs.
 abbrev pub Saves : Schedule → List ℕ → List ℕ → Saving → Type 0

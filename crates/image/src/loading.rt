@@ -2,6 +2,7 @@
 ghost use mathlib.Core.Path.{_≡_};
 ghost use Prim.Native.Nat.{_+_};
 ghost use lib.ListN.{length, take, drop};
+ghost use Rattle.rules.specs.TreeBytes.{treeBytes};
 ghost use Rattle.rules.specs.Bytes.{same};
 ghost use Rattle.rules.specs.Good.{Good};
 ghost use Rattle.image.specs.Promises.{Loads};
@@ -13,14 +14,15 @@ use rules::Loaded;
 use rules::Loading;
 use rules::Refusal;
 use rules::Schedule;
+use rules::TREE_BYTES;
 
 // Whether the last bytes of the image are the tree's; all are compared, which a machine does many at a time.
-fn ends_with(bytes: &[u8], at: usize, tree: &[u8; 128]) -> bool
-    requires { ⌜ (at + 128 ≡ length (now bytes)) × (length (now tree) ≡ 128) ⌝ }
-    ensures { λ r. ⌜ r ≡ same (take 128 (drop at (now (bytes .entry)))) (now (tree .entry)) ⌝ }
+fn ends_with(bytes: &[u8], at: usize, tree: &[u8; TREE_BYTES]) -> bool
+    requires { ⌜ (at + treeBytes ≡ length (now bytes)) × (length (now tree) ≡ treeBytes) ⌝ }
+    ensures { λ r. ⌜ r ≡ same (take treeBytes (drop at (now (bytes .entry)))) (now (tree .entry)) ⌝ }
 {
     let mut same = true;
-    for i in 0..128 {
+    for i in 0..TREE_BYTES {
         same = same & (bytes[at + i] == tree[i]);
     }
     same

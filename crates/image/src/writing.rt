@@ -1,13 +1,27 @@
 //! A record, written at its place in the buffer.
 ghost use mathlib.Core.Path.{_≡_};
 ghost use mathlib.Core.List.{_++_};
-ghost use Prim.Native.Nat.{_+_, _≤_};
+ghost use Prim.Native.Nat.{_+_, _<_, _≤_};
 ghost use lib.ListN.{length};
 ghost use lib.Seq.{sets};
+ghost use Rattle.rules.specs.Ownership.{handles};
 ghost use Rattle.rules.specs.Bytes.{little};
-ghost use Rattle.rules.specs.Image.{written, connectionPiece};
+ghost use Rattle.rules.specs.Records.{written};
+ghost use Rattle.rules.specs.Form.{connectionSize};
+ghost use Rattle.rules.specs.Image.{connectionPiece};
 use codec::put_number;
+use rules::CONNECTION_KIND;
+use rules::CONNECTION_SIZE;
+use rules::COUNT_SIZE;
 use rules::Connection;
+use rules::TREE_SIZE;
+
+// The bytes of each record: a header of four, and its payload.
+pub const COUNT_RECORD: usize = 4 + COUNT_SIZE as usize;
+
+pub const CONNECTION_RECORD: usize = 4 + CONNECTION_SIZE as usize;
+
+pub const TREE_RECORD: usize = 4 + TREE_SIZE as usize;
 
 // A record's length and kind.
 pub fn put_header(buffer: &mut [u8], at: usize, size: u32, kind: u32)
@@ -20,7 +34,7 @@ pub fn put_header(buffer: &mut [u8], at: usize, size: u32, kind: u32)
 
 // Which blocks are whose: handle (1), k (1), A (2), L (2).
 fn put_run(buffer: &mut [u8], at: usize, handle: usize, c: Connection)
-    requires { ⌜ (at + 6 ≤ length (now buffer)) × (handle ≤ 63) ⌝ }
+    requires { ⌜ (at + 6 ≤ length (now buffer)) × (handle < handles) ⌝ }
     ensures { λ _. ⌜ now (buffer .exit) ≡ sets (now (buffer .entry)) at (little 1 handle ++ little 1 (c .k) ++ little 2 (c .anchor) ++ little 2 (c .length)) ⌝ }
 {
     put_number(buffer, at, 1, handle as u32);
@@ -41,10 +55,10 @@ fn put_share(buffer: &mut [u8], at: usize, c: Connection)
 
 // The record of a connection.
 pub fn put_connection(buffer: &mut [u8], at: usize, handle: usize, c: Connection)
-    requires { ⌜ (at + 18 ≤ length (now buffer)) × (handle ≤ 63) ⌝ }
+    requires { ⌜ (at + (4 + connectionSize) ≤ length (now buffer)) × (handle < handles) ⌝ }
     ensures { λ _. ⌜ now (buffer .exit) ≡ sets (now (buffer .entry)) at (written (connectionPiece handle c)) ⌝ }
 {
-    put_header(buffer, at, 14, 2);
+    put_header(buffer, at, CONNECTION_SIZE, CONNECTION_KIND);
     put_run(buffer, at + 4, handle, c);
     put_share(buffer, at + 10, c);
 }

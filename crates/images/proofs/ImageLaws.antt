@@ -16,23 +16,26 @@ use Rattle.rules.specs.Sound.{soundNumbers, allSound, apart, sound}
 use Rattle.rules.specs.Good.{Good, FreeSlotsZero, treeFor, scheduleOf}
 use Rattle.rules.specs.Refusals.{number}
 use Rattle.rules.specs.Answers.{Outcome, refusing, loaded}
+use Rattle.rules.specs.Handles.{eachLive}
 use Rattle.rules.specs.Bytes.{little, littleNumber, same}
-use Rattle.rules.specs.Image.{Piece, written, joined, countPiece, connectionPiece, connectionPieces, treePiece, pieces, image, IsImage}
-use Rattle.rules.specs.Load.{piecesOf, countIn, shaped, recordsWrong, connectionsIn, handleIn, connectionIn, soundRecords, numbersUnsound, restored, treeIn, connectionsOf, loadChecks, loadDone, load}
+use Rattle.rules.specs.Records.{Piece, written, joined, piecesOf}
+use Rattle.rules.specs.Form.{headOf, countKind, countSize, connectionKind, connectionSize, treeKind, treeSize, form, formed}
+use Rattle.rules.specs.Image.{countPiece, connectionPiece, connectionPieces, treePiece, pieces, image, IsImage}
+use Rattle.rules.specs.Framing.{countIn, recordsWrong, Framed}
+use Rattle.rules.specs.Fields.{connectionsIn, handleIn, connectionIn, treeIn}
+use Rattle.rules.specs.Load.{soundRecords, numbersUnsound, restored, connectionsOf, loadChecks, loadDone, load}
 use Rattle.basics.proofs.BoolLaws.{both}
 use Rattle.basics.proofs.BelowLaws.{any-ext}
 use Rattle.blocks.proofs.TreeLaws.{tree-sized, tree-ext}
 use Rattle.rules.specs.Sound.{Numbers}
 use Rattle.blocks.proofs.SoundLaws.{numbers-sound, all-sound-at, scheduled-good}
 use Rattle.calls.proofs.RefusalLaws.{Passed, decided-cases, decided-passed}
+use Rattle.calls.proofs.EachLaws.{liveCount, count-most, each-count}
 use Rattle.basics.proofs.BytesLaws.{AllBytes, bytes-append, little-bytes, little-number, number-little, same-exactly}
 use Rattle.images.proofs.RisingLaws.{soundFrom, sound-from, rising-exactly}
 use Rattle.images.proofs.PieceLaws.{Fitting, Each, written-length, joined-append, pieces-joined, pieces-bytes, numbers-narrow, connection-read, connection-written}
-
--- How many connections are live.
-unfoldable pub liveCount : List Connection → ℕ
-liveCount [] = 0
-liveCount (c ∷ cs) = cond (c .live) 1 0 + liveCount cs
+use Rattle.images.proofs.FormLaws.{Has, IsConnection, Parts, parts-form, connections-inside, tree-inside}
+use Rattle.images.proofs.FrameLaws.{FramedSays, framed-exactly, framed-of}
 
 -- The same connections, with every slot that is not live set to zeros.
 unfoldable pub cleared : List Connection → List Connection
@@ -94,7 +97,7 @@ each-left P (x ∷ xs) ys p = (p .0, each-left P xs ys (p .1))
 
 module _ (P : Piece → Type 0) (each : (h : ℕ) (c : Connection) → P (connectionPiece h c)) where
   each-connection : (h : ℕ) (cs : List Connection) → Each P (connectionPieces h cs)
-  unfolding connectionPieces
+  unfolding eachLive
   each-connection h [] = tt
   each-connection h (c ∷ cs) = go (c .live) (each-connection (suc h) cs)
     where
@@ -102,63 +105,77 @@ module _ (P : Piece → Type 0) (each : (h : ℕ) (c : Connection) → P (connec
       go true later = (each h c, later)
       go false later = later
 
-  each-piece : (cs : List Connection) → ((n : ℕ) → P (countPiece n)) → P (treePiece cs) → Each P (pieces cs)
+  each-piece : (s : Schedule) → ((n : ℕ) → P (countPiece n)) → P (treePiece s) → Each P (pieces s)
   unfolding pieces
-  each-piece cs count tree = (count (length (connectionPieces 0 cs)), each-append P (connectionPieces 0 cs) (treePiece cs ∷ []) (each-connection 0 cs) (tree, tt))
+  each-piece s count tree =
+      let each = connectionPieces 0 (s .connections) in
+      (count (length each), each-append P each (treePiece s ∷ []) (each-connection 0 (s .connections)) (tree, tt))
 
-connection-size : (h : ℕ) (c : Connection) → length (connectionPiece h c .payload) ≡ 14
+-- The kind and the size of each.
+count-has : (n : ℕ) → Has countKind countSize (headOf (countPiece n))
+unfolding countPiece
+count-has n = record { kind-is = refl; size-is = refl }
+
+pub connection-has : (h : ℕ) (c : Connection) → IsConnection (connectionPiece h c)
 unfolding connectionPiece
-connection-size h c = refl
+connection-has h c = record { kind-is = refl; size-is = refl }
 
-tree-size : (cs : List Connection) → length (treePiece cs .payload) ≡ 128
+tree-has : (s : Schedule) → Has treeKind treeSize (headOf (treePiece s))
 unfolding treePiece
-tree-size cs = tree-sized (taken cs) .long
+tree-has s = record { kind-is = refl; size-is = tree-sized (taken (s .connections)) .long }
+
+pieces-parts : (s : Schedule) → Parts (liveCount (s .connections)) (pieces s)
+unfolding pieces
+pieces-parts s =
+    let each = connectionPieces 0 (s .connections) in
+    record {
+      first = countPiece (length each);
+      each = each;
+      last = treePiece s;
+      whole = refl;
+      number = each-count connectionPiece 0 (s .connections);
+      counts = count-has (length each);
+      connections = each-connection IsConnection connection-has 0 (s .connections);
+      ends = tree-has s;
+    }
+
+-- The records of an image have the form.
+pub pieces-formed : (s : Schedule) → formed (form (liveCount (s .connections))) (map headOf (pieces s)) ≡ true
+pieces-formed s = parts-form (liveCount (s .connections)) (pieces s) (pieces-parts s)
 
 -- ---- the size of an image
-pub connections-count : (h : ℕ) (cs : List Connection) → length (connectionPieces h cs) ≡ liveCount cs
-unfolding connectionPieces liveCount
-connections-count h [] = refl
-connections-count h (c ∷ cs) = go (c .live) (connections-count (suc h) cs)
-  where
-    go : (v : Bool) → length (connectionPieces (suc h) cs) ≡ liveCount cs → length (cond v (connectionPiece h c ∷ connectionPieces (suc h) cs) (connectionPieces (suc h) cs)) ≡ cond v 1 0 + liveCount cs
-    go true later = omega arith
-    go false later = omega arith
-
--- At most as many as there are slots.
-pub count-most : (cs : List Connection) → liveCount cs ≤ length cs
-unfolding liveCount
-count-most [] = omega arith
-count-most (c ∷ cs) = go (c .live) (count-most cs)
-  where
-    go : (v : Bool) → liveCount cs ≤ length cs → cond v 1 0 + liveCount cs ≤ suc (length cs)
-    go true later = omega arith
-    go false later = omega arith
-
--- Records of connections are 18 bytes each.
-joined-length : (rs : List Piece) → Each (λ r. length (r .payload) ≡ 14) rs → length (joined rs) ≡ 18 * length rs
+-- Records of connections have as many bytes each.
+joined-length : (rs : List Piece) → Each IsConnection rs → length (joined rs) ≡ (4 + connectionSize) * length rs
 unfolding joined
 joined-length [] e = refl
-joined-length (r ∷ rs) e = omega (arith, length-append (written r) (joined rs), written-length r, joined-length rs (e .1))
+joined-length (r ∷ rs) e = omega (arith, length-append (written r) (joined rs), written-length r, e .0 .size-is, joined-length rs (e .1))
 
-pub connections-length : (h : ℕ) (cs : List Connection) → length (joined (connectionPieces h cs)) ≡ 18 * length (connectionPieces h cs)
-connections-length h cs = joined-length (connectionPieces h cs) (each-connection (λ r. length (r .payload) ≡ 14) connection-size h cs)
-
--- And one record after them.
-pub ended-length : (rs : List Piece) → Each (λ r. length (r .payload) ≡ 14) rs → (t : Piece) → length (joined (rs ++ (t ∷ []))) ≡ 18 * length rs + (4 + length (t .payload))
-unfolding joined
-ended-length rs e t =
-    omega (arith, ap {B = ℕ} length (joined-append rs (t ∷ [])) ∙ length-append (joined rs) (joined (t ∷ [])), joined-length rs e, length-append (written t) [], written-length t)
+pub connections-length : (h : ℕ) (cs : List Connection) → length (joined (connectionPieces h cs)) ≡ (4 + connectionSize) * length (connectionPieces h cs)
+connections-length h cs = joined-length (connectionPieces h cs) (each-connection IsConnection connection-has h cs)
 
 -- The size is 138 + 18 × n, for n live connections.
-pub image-length : (cs : List Connection) → length (image cs) ≡ 138 + 18 * liveCount cs
-unfolding image pieces
-image-length cs =
-    let e = ended-length (connectionPieces 0 cs) (each-connection (λ r. length (r .payload) ≡ 14) connection-size 0 cs) (treePiece cs) in
-    omega (arith, connections-count 0 cs, tree-size cs)
+pub image-length : (s : Schedule) → length (image s) ≡ 138 + 18 * liveCount (s .connections)
+unfolding image pieces joined pieces-parts
+image-length s =
+    let p = pieces-parts s in
+    let each = connectionPieces 0 (s .connections) in
+    let tree = treePiece s ∷ [] in
+    omega (
+      arith,
+      length-append (written (countPiece (length each))) (joined (each ++ tree)),
+      written-length (countPiece (length each)),
+      p .counts .size-is,
+      ap {B = ℕ} length (joined-append each tree) ∙ length-append (joined each) (joined tree),
+      connections-length 0 (s .connections),
+      p .number,
+      length-append (written (treePiece s)) [],
+      written-length (treePiece s),
+      p .ends .size-is,
+    )
 
 -- 138 when empty, 1,290 when full.
-pub image-bounds : (cs : List Connection) → length cs ≡ handles → (138 ≤ length (image cs)) × (length (image cs) ≤ 1290)
-image-bounds cs l = (omega (arith, image-length cs), omega (arith, image-length cs, count-most cs, l))
+pub image-bounds : (s : Schedule) → length (s .connections) ≡ handles → (138 ≤ length (image s)) × (length (image s) ≤ 1290)
+image-bounds s l = (omega (arith, image-length s), omega (arith, image-length s, count-most (s .connections), l))
 
 -- ---- an image is bytes
 written-bytes : (r : Piece) → AllBytes (r .payload) → AllBytes (written r)
@@ -183,13 +200,13 @@ connection-bytes h c =
     let none : Bytes [] = record { each = λ i. omega arith } in
     then (then (then (then (then (then (then none 1 h) 1 (c .k)) 2 (c .anchor)) 2 (c .length)) 2 (c .floor)) 2 (c .ceiling)) 4 (c .estimate) .each
 
-pub image-bytes : (cs : List Connection) → AllBytes (image cs)
+pub image-bytes : (s : Schedule) → AllBytes (image s)
 unfolding image countPiece treePiece
-image-bytes cs = joined-bytes (pieces cs) (each-piece (λ r. AllBytes (r .payload)) connection-bytes cs (λ n. little-bytes 2 n) (tree-sized (taken cs) .small))
+image-bytes s = joined-bytes (pieces s) (each-piece (λ r. AllBytes (r .payload)) connection-bytes s (λ n. little-bytes 2 n) (tree-sized (taken (s .connections)) .small))
 
 -- Connections with the same live ones have the same image.
 cleared-pieces : (h : ℕ) (cs : List Connection) → connectionPieces h (cleared cs) ≡ connectionPieces h cs
-unfolding connectionPieces cleared
+unfolding eachLive cleared
 cleared-pieces h [] = refl
 cleared-pieces h (c ∷ cs) = go (c .live) refl (cleared-pieces (suc h) cs)
   where
@@ -197,134 +214,17 @@ cleared-pieces h (c ∷ cs) = go (c .live) refl (cleared-pieces (suc h) cs)
     go true q later = rw later
     go false q later = rw q later
 
-pub image-cleared : (cs : List Connection) → image (cleared cs) ≡ image cs
-unfolding image pieces treePiece
-image-cleared cs =
-    ap₂ (λ (rs : List Piece) (t : List ℕ). joined (countPiece (length rs) ∷ (rs ++ (record { kind = 3; payload = t } ∷ [])))) (cleared-pieces 0 cs) (cleared-tree cs)
+pub image-cleared : (s : Schedule) → image (scheduleOf (cleared (s .connections))) ≡ image s
+unfolding image pieces treePiece scheduleOf
+image-cleared s =
+    ap₂ (λ (rs : List Piece) (t : List ℕ). joined (countPiece (length rs) ∷ (rs ++ (record { kind = treeKind; payload = t } ∷ [])))) (cleared-pieces 0 (s .connections)) (cleared-tree (s .connections))
 
--- ---- the shape of an image
-abbrev pub kindOf : Piece → ℕ
-kindOf r = r .kind
-
-abbrev pub sizeOf : Piece → ℕ
-sizeOf r = length (r .payload)
-
--- A record of a connection.
-pub record IsConnection (r : Piece) : Type 0 where
-  pub kind-2 : kindOf r ≡ 2
-  pub size-14 : sizeOf r ≡ 14
-
--- n records of connections, and the record of a tree.
-pub record Ends (n : ℕ) (rs : List Piece) : Type 0 where
-  pub each : List Piece
-  pub last : Piece
-  pub whole : rs ≡ each ++ (last ∷ [])
-  pub number : length each ≡ n
-  pub connections : Each IsConnection each
-  pub kind-3 : kindOf last ≡ 3
-  pub size-128 : sizeOf last ≡ 128
-
--- A record with the count, and what it counts.
-pub record Shaped (rs : List Piece) : Type 0 where
-  pub first : Piece
-  pub rest : List Piece
-  pub begun : rs ≡ first ∷ rest
-  pub kind-1 : kindOf first ≡ 1
-  pub size-2 : sizeOf first ≡ 2
-  pub ends : Ends (littleNumber (first .payload)) rest
-
-one-more : (n : ℕ) (r : Piece) (rs : List Piece) → IsConnection r → Ends n rs → Ends (suc n) (r ∷ rs)
-one-more n r rs c w =
-    record {
-      each = r ∷ w .each;
-      last = w .last;
-      whole = ap {B = List Piece} (λ l. r ∷ l) (w .whole);
-      number = ap suc (w .number);
-      connections = (c, w .connections);
-      kind-3 = w .kind-3;
-      size-128 = w .size-128;
-    }
-
-ends-of : (n : ℕ) (rs : List Piece) → map kindOf rs ≡ replicate n 2 ++ (3 ∷ []) → map sizeOf rs ≡ replicate n 14 ++ (128 ∷ []) → Ends n rs
-ends-of zero [] p q = absurd (let z : _≡_ {A = ℕ} 0 1 = cc in omega arith)
-ends-of zero (r ∷ []) p q = record { each = []; last = r; whole = refl; number = refl; connections = tt; kind-3 = (cc); size-128 = (cc) }
-ends-of zero (r ∷ r′ ∷ rs) p q = absurd (let z : _≡_ {A = ℕ} 0 1 = cc in omega arith)
-ends-of (suc n) [] p q = absurd (let z : _≡_ {A = ℕ} 0 1 = cc in omega arith)
-ends-of (suc n) (r ∷ rs) p q = one-more n r rs (record { kind-2 = (cc); size-14 = (cc) }) (ends-of n rs (cc) (cc))
-
--- What the check of the shape tests.
-abbrev pub kindsFor : ℕ → List ℕ
-kindsFor n = 1 ∷ (replicate n 2 ++ (3 ∷ []))
-
-abbrev pub sizesFor : ℕ → List ℕ
-sizesFor n = 2 ∷ (replicate n 14 ++ (128 ∷ []))
-
-pub shaped-exactly : (rs : List Piece) → (shaped rs ≡ true) ↔ ((countIn rs ≤ handles) × (map kindOf rs ≡ kindsFor (countIn rs)) × (map sizeOf rs ≡ sizesFor (countIn rs)))
-unfolding shaped
-shaped-exactly rs =
-    let most = leb (countIn rs) handles in
-    let kinds = same (map kindOf rs) (kindsFor (countIn rs)) in
-    let sizes = same (map sizeOf rs) (sizesFor (countIn rs)) in (
-      λ e.
-          let p = both (most && kinds) sizes e in
-          let q = both most kinds (p .0) in
-          (leb-true (countIn rs) handles (q .0), same-exactly (map kindOf rs) (kindsFor (countIn rs)) .0 (q .1), same-exactly (map sizeOf rs) (sizesFor (countIn rs)) .0 (p .1)),
-      λ p.
-          ap₂ _&&_ (ap₂ _&&_ (le-leb (countIn rs) handles (p .0)) (same-exactly (map kindOf rs) (kindsFor (countIn rs)) .1 (p .1)))
-          (same-exactly (map sizeOf rs) (sizesFor (countIn rs)) .1 (p .2)),
-    )
-
-pub shaped-parts : (rs : List Piece) → shaped rs ≡ true → Shaped rs
-unfolding countIn
-shaped-parts [] e = let p = shaped-exactly [] .0 e in absurd (let z : _≡_ {A = ℕ} 0 1 = cc (p .1) in omega arith)
-shaped-parts (r ∷ rs) e = go (shaped-exactly (r ∷ rs) .0 e)
-  where
-    go : (countIn (r ∷ rs) ≤ handles) × (map kindOf (r ∷ rs) ≡ kindsFor (countIn (r ∷ rs))) × (map sizeOf (r ∷ rs) ≡ sizesFor (countIn (r ∷ rs))) → Shaped (r ∷ rs)
-    go p =
-        record { first = r; rest = rs; begun = refl; kind-1 = cc (p .1); size-2 = cc (p .2); ends = ends-of (littleNumber (r .payload)) rs (cc (p .1)) (cc (p .2)) }
-
--- The kinds, or the sizes, of records of which all but the last have the same.
-pub mapped : (f : Piece → ℕ) (v : ℕ) (rs : List Piece) (t : Piece) → Each (λ r. f r ≡ v) rs → map f (rs ++ (t ∷ [])) ≡ replicate (length rs) v ++ (f t ∷ [])
-mapped f v [] t e = refl
-mapped f v (r ∷ rs) t e = ap₂ {C = List ℕ} (λ x l. x ∷ l) (e .0) (mapped f v rs t (e .1))
-
--- The records of a schedule's image have the shape.
-count-read : (cs : List Connection) → length cs ≡ handles → countIn (pieces cs) ≡ length (connectionPieces 0 cs)
-unfolding countIn pieces
-count-read cs l = little-number 2 (length (connectionPieces 0 cs)) (omega (arith, connections-count 0 cs, count-most cs))
-
-connection-kind : (h : ℕ) (c : Connection) → kindOf (connectionPiece h c) ≡ 2
-unfolding connectionPiece
-connection-kind h c = refl
-
-pieces-shaped : (cs : List Connection) → length cs ≡ handles → shaped (pieces cs) ≡ true
-unfolding pieces treePiece
-pieces-shaped cs l =
-    let each = connectionPieces 0 cs in
-    let n : countIn (pieces cs) ≡ length each = count-read cs l in
-    let kinds = mapped kindOf 2 each (treePiece cs) (each-connection (λ r. kindOf r ≡ 2) connection-kind 0 cs) in
-    let sizes = mapped sizeOf 14 each (treePiece cs) (each-connection (λ r. sizeOf r ≡ 14) connection-size 0 cs) in
-    shaped-exactly (pieces cs) .1 (
-      rw n (omega (arith, connections-count 0 cs, count-most cs)),
-      ap {B = List ℕ} (λ l. 1 ∷ l) kinds ∙ ap kindsFor (sym n),
-      ap {B = List ℕ} (λ l. 2 ∷ l) (sizes ∙ ap (λ (m : ℕ). replicate (length each) 14 ++ (m ∷ [])) (tree-size cs)) ∙ ap sizesFor (sym n),
-    )
-
-connections-inside : (each : List Piece) (last : Piece) → Each IsConnection each → kindOf last ≡ 3 → (connectionsIn (each ++ (last ∷ [])) ≡ each) × (treeIn (each ++ (last ∷ [])) ≡ last .payload)
-unfolding connectionsIn treeIn
-connections-inside [] last e q = (rw (ne-eqb (kindOf last) 2 (omega arith)), rw (eq-eqb (kindOf last) 3 q) (append-nil (last .payload)))
-connections-inside (r ∷ rs) last e q =
-    let k : kindOf r ≡ 2 = e .0 .kind-2 in
-    let later = connections-inside rs last (e .1) q in
-    (rw (eq-eqb (kindOf r) 2 k) (ap {B = List Piece} (λ l. r ∷ l) (later .0)), rw (ne-eqb (kindOf r) 3 (omega arith)) (later .1))
-
--- The connections and the tree in records of the shape.
-pub inside : (first : Piece) (each : List Piece) (last : Piece) → kindOf first ≡ 1 → Each IsConnection each → kindOf last ≡ 3
-    → (connectionsIn (first ∷ (each ++ (last ∷ []))) ≡ each) × (treeIn (first ∷ (each ++ (last ∷ []))) ≡ last .payload)
-unfolding connectionsIn treeIn
-inside first each last q c p =
-    let later = connections-inside each last c p in
-    (rw (ne-eqb (kindOf first) 2 (omega arith)) (later .0), rw (ne-eqb (kindOf first) 3 (omega arith)) (later .1))
+-- Its count is read back.
+count-read : (s : Schedule) → length (s .connections) ≡ handles → countIn (pieces s) ≡ liveCount (s .connections)
+unfolding countIn pieces countPiece
+count-read s l =
+    let n = each-count connectionPiece 0 (s .connections) in
+    little-number 2 (length (connectionPieces 0 (s .connections))) (omega (arith, n, count-most (s .connections))) ∙ n
 
 -- ---- the connections of the records of a schedule
 -- A live connection's record is read back.
@@ -345,7 +245,7 @@ slots-set h c cs = ap (λ (l : List Connection). set l h c) (slots-shift h cs) �
 
 -- After h free slots: the records of the connections from handle h on give these connections again.
 restored-cleared : (h : ℕ) (cs : List Connection) → h + length cs ≡ handles → AllNumbers cs → restored (connectionPieces h cs) ≡ replicate h nobody ++ cleared cs
-unfolding restored connectionPieces cleared
+unfolding restored eachLive cleared
 restored-cleared h [] l n =
     let e : 64 ≡ h = omega arith in
     ap (λ (m : ℕ). replicate m nobody) e ∙ sym (append-nil (replicate h nobody))
@@ -362,7 +262,7 @@ restored-cleared h (c ∷ cs) l n = go (c .live) refl (restored-cleared (suc h) 
 
 -- The handles of a schedule's records rise.
 pieces-sound : (h g : ℕ) (cs : List Connection) → h ≤ g → g + length cs ≡ handles → AllNumbers cs → soundFrom h (connectionPieces g cs) ≡ true
-unfolding soundFrom connectionPieces
+unfolding soundFrom eachLive
 pieces-sound h g [] m l n = refl
 pieces-sound h g (c ∷ cs) m l n = go (c .live) refl (λ j k. pieces-sound j (suc g) cs k (omega arith) (λ i. n (suc i)))
   where
@@ -390,7 +290,7 @@ record Laid (h : ℕ) (rs : List Piece) : Type 0 where
 
 -- Free slots in front change nothing.
 free-pieces : (n h : ℕ) (cs : List Connection) → connectionPieces h (replicate n nobody ++ cs) ≡ connectionPieces (h + n) cs
-unfolding connectionPieces
+unfolding eachLive
 free-pieces zero h cs = ap (λ (m : ℕ). connectionPieces m cs) (omega arith)
 free-pieces (suc n) h cs = free-pieces n (suc h) cs ∙ ap (λ (m : ℕ). connectionPieces m cs) (omega arith)
 
@@ -413,17 +313,17 @@ laid-from h g rs l w =
     }
 
 laid-none : Laid handles []
-unfolding restored connectionPieces allSound
+unfolding restored eachLive allSound
 laid-none = record { slots = []; long = refl; placed = refl; again = refl; numbers = refl }
 
 laid-one : (r : Piece) (rs : List Piece) → IsConnection r → AllBytes (r .payload) → soundNumbers (connectionIn r) ≡ true → Laid (suc (handleIn r)) rs → Laid (handleIn r) (r ∷ rs)
-unfolding restored connectionPieces allSound
+unfolding restored eachLive allSound
 laid-one r rs c b n w =
     record {
       slots = connectionIn r ∷ w .slots;
       long = omega (arith, w .long);
       placed = ap (λ (l : List Connection). set l (handleIn r) (connectionIn r)) (w .placed) ∙ slots-set (handleIn r) (connectionIn r) (w .slots);
-      again = ap₂ {C = List Piece} (λ x l. x ∷ l) (connection-written r (c .kind-2) (c .size-14) b) (w .again);
+      again = ap₂ {C = List Piece} (λ x l. x ∷ l) (connection-written r (c .kind-is) (c .size-is) b) (w .again);
       numbers = ap₂ _&&_ n (w .numbers);
     }
 
@@ -436,118 +336,129 @@ laid (r ∷ rs) h l e c b =
 
 -- ---- what the checks of a load test
 record Accepted (bytes : List ℕ) (rs : List Piece) : Type 0 where
+  most : countIn rs ≤ handles
   records : joined rs ≡ bytes
-  shape : shaped rs ≡ true
+  parts : Parts (countIn rs) rs
   rising : soundRecords (connectionsIn rs) ≡ true
   separate : apart (connectionsOf rs) ≡ true
   tree : treeIn rs ≡ treeFor (connectionsOf rs)
 
 passed-exactly : (bytes : List ℕ) → Passed (loadChecks bytes) ↔ Accepted bytes (piecesOf bytes)
-unfolding loadChecks recordsWrong numbersUnsound
+unfolding loadChecks numbersUnsound
 passed-exactly bytes =
     let rs = piecesOf bytes in
+    let n = countIn rs in
     let tree = same-exactly (treeIn rs) (treeFor (connectionsOf rs)) in (
       λ p.
-          let q = both (same (joined rs) bytes) (shaped rs) (not-false (same (joined rs) bytes && shaped rs) (p .0)) in
+          let f : Framed bytes n = record { right = p .0; counts = refl } in
+          let q = framed-exactly bytes n f in
           record {
-            records = same-exactly (joined rs) bytes .0 (q .0);
-            shape = q .1;
+            most = q .most;
+            records = q .records;
+            parts = q .parts;
             rising = not-false (soundRecords (connectionsIn rs)) (p .1 .0);
             separate = not-false (apart (connectionsOf rs)) (p .1 .1 .0);
             tree = tree .0 (not-false (same (treeIn rs) (treeFor (connectionsOf rs))) (p .1 .1 .1 .0));
           },
       λ a. (
-        ap not (ap₂ _&&_ (same-exactly (joined rs) bytes .1 (a .records)) (a .shape)),
+        framed-of bytes n refl (record { most = a .most; records = a .records; parts = a .parts }) .right,
         (ap not (a .rising), (ap not (a .separate), (ap not (tree .1 (a .tree)), tt))),
       ),
     )
 
 -- ---- the image of a schedule is accepted
-module _ (cs : List Connection) (long : length cs ≡ handles) (isSound : sound cs ≡ true) where
-  numbered : AllNumbers cs
+module _ (s : Schedule) (long : length (s .connections) ≡ handles) (isSound : sound (s .connections) ≡ true) where
+  numbered : AllNumbers (s .connections)
   unfolding sound
-  numbered = all-sound-at cs (both (allSound cs) (apart cs) isSound .0)
+  numbered = all-sound-at (s .connections) (both (allSound (s .connections)) (apart (s .connections)) isSound .0)
 
-  read : piecesOf (image cs) ≡ pieces cs
-  unfolding image countPiece treePiece
+  read : piecesOf (image s) ≡ pieces s
+  unfolding image
   read =
-      pieces-joined (pieces cs)
-      (each-piece Fitting (λ h c. omega (arith, connection-kind h c, connection-size h c)) cs (λ n. omega arith) (omega (arith, tree-size cs)))
+      let fits : (kind size : ℕ) (r : Piece) → kind < 65536 → size < 65536 → Has kind size (headOf r) → Fitting r = λ kind size r k l h. record { kind-fits = omega (arith, h .kind-is); size-fits = omega (arith, h .size-is) } in
+      pieces-joined (pieces s)
+      (each-piece Fitting (λ h c. fits connectionKind connectionSize (connectionPiece h c) (omega arith) (omega arith) (connection-has h c)) s
+      (λ n. fits countKind countSize (countPiece n) (omega arith) (omega arith) (count-has n))
+      (fits treeKind treeSize (treePiece s) (omega arith) (omega arith) (tree-has s)))
 
-  read-inside : (connectionsIn (pieces cs) ≡ connectionPieces 0 cs) × (treeIn (pieces cs) ≡ treeFor cs)
-  unfolding pieces countPiece treePiece
-  read-inside =
-      inside (countPiece (length (connectionPieces 0 cs))) (connectionPieces 0 cs) (treePiece cs) refl
-      (each-connection IsConnection (λ h c. record { kind-2 = connection-kind h c; size-14 = connection-size h c }) 0 cs) refl
+  read-each : connectionsIn (pieces s) ≡ connectionPieces 0 (s .connections)
+  unfolding pieces-parts
+  read-each = connections-inside (liveCount (s .connections)) (pieces s) (pieces-parts s)
 
-  read-connections : connectionsOf (pieces cs) ≡ cleared cs
+  read-tree : treeIn (pieces s) ≡ treeFor (s .connections)
+  unfolding treePiece pieces-parts
+  read-tree = tree-inside (liveCount (s .connections)) (pieces s) (pieces-parts s)
+
+  read-connections : connectionsOf (pieces s) ≡ cleared (s .connections)
   unfolding connectionsOf
-  read-connections = ap restored (read-inside .0) ∙ restored-cleared 0 cs (omega arith) numbered
+  read-connections = ap restored read-each ∙ restored-cleared 0 (s .connections) (omega arith) numbered
 
-  pieces-accepted : Accepted (image cs) (pieces cs)
+  pieces-accepted : Accepted (image s) (pieces s)
   unfolding image sound
   pieces-accepted =
+      let cs = s .connections in
       record {
+        most = omega (arith, count-read s long, count-most cs);
         records = refl;
-        shape = pieces-shaped cs long;
-        rising = ap soundRecords (read-inside .0) ∙ sound-from (connectionPieces 0 cs) ∙ pieces-sound 0 0 cs (omega arith) (omega arith) numbered;
+        parts = subst (λ (n : ℕ). Parts n (pieces s)) (sym (count-read s long)) (pieces-parts s);
+        rising = ap soundRecords read-each ∙ sound-from (connectionPieces 0 cs) ∙ pieces-sound 0 0 cs (omega arith) (omega arith) numbered;
         separate = ap apart read-connections ∙ cleared-apart cs ∙ both (allSound cs) (apart cs) isSound .1;
-        tree = read-inside .1 ∙ sym (ap treeFor read-connections ∙ cleared-tree cs);
+        tree = read-tree ∙ sym (ap treeFor read-connections ∙ cleared-tree cs);
       }
 
 -- The image of a sound schedule is accepted, and gives its live connections.
-pub load-image : (s : Schedule) (cs : List Connection) → length cs ≡ handles → sound cs ≡ true
-    → load s (image cs) ≡ record { answer = loaded (liveCount cs); schedule = scheduleOf (cleared cs) }
+pub load-image : (s t : Schedule) → length (t .connections) ≡ handles → sound (t .connections) ≡ true
+    → load s (image t) ≡ record { answer = loaded (liveCount (t .connections)); schedule = scheduleOf (cleared (t .connections)) }
 unfolding load loadDone
-load-image s cs l e =
-    let r = read cs l e in
-    decided-passed (loadChecks (image cs)) (refusing s) (loadDone (image cs)) (passed-exactly (image cs) .1 (subst (Accepted (image cs)) (sym r) (pieces-accepted cs l e)))
+load-image s t l e =
+    let r = read t l e in
+    decided-passed (loadChecks (image t)) (refusing s) (loadDone (image t)) (passed-exactly (image t) .1 (subst (Accepted (image t)) (sym r) (pieces-accepted t l e)))
     ∙ ap (λ (rs : List Piece). record { answer = loaded (countIn rs); schedule = scheduleOf (connectionsOf rs) }) r
-    ∙ ap₂ (λ (n : ℕ) (cs : List Connection). record { answer = loaded n; schedule = scheduleOf cs }) (count-read cs l ∙ connections-count 0 cs) (read-connections cs l e)
+    ∙ ap₂ (λ (n : ℕ) (cs : List Connection). record { answer = loaded n; schedule = scheduleOf cs }) (count-read t l) (read-connections t l e)
 
 -- Two sound schedules with the same image have the same connections.
-pub image-unique : (cs ds : List Connection) → length cs ≡ handles → length ds ≡ handles → sound cs ≡ true → sound ds ≡ true → image cs ≡ image ds → cleared cs ≡ cleared ds
-image-unique cs ds l m e f q =
-    sym (ap connectionsOf (read cs l e) ∙ read-connections cs l e)
+pub image-unique : (s t : Schedule) → length (s .connections) ≡ handles → length (t .connections) ≡ handles → sound (s .connections) ≡ true → sound (t .connections) ≡ true
+    → image s ≡ image t → cleared (s .connections) ≡ cleared (t .connections)
+image-unique s t l m e f q =
+    sym (ap connectionsOf (read s l e) ∙ read-connections s l e)
     ∙ ap (λ (bytes : List ℕ). connectionsOf (piecesOf bytes)) q
-    ∙ (ap connectionsOf (read ds m f) ∙ read-connections ds m f)
+    ∙ (ap connectionsOf (read t m f) ∙ read-connections t m f)
 
 -- ---- what is accepted is the image of a schedule
 pub record Restores (bytes : List ℕ) (cs : List Connection) : Type 0 where
   pub long : length cs ≡ handles
   pub isSound : sound cs ≡ true
-  pub saved : image cs ≡ bytes
+  pub saved : image (scheduleOf cs) ≡ bytes
 
-restores-parts : (bytes : List ℕ) (first : Piece) (each : List Piece) (last : Piece)
-    → kindOf first ≡ 1 → sizeOf first ≡ 2 → littleNumber (first .payload) ≡ length each → Each IsConnection each → kindOf last ≡ 3
-    → Each (λ r. AllBytes (r .payload)) (first ∷ (each ++ (last ∷ []))) → Accepted bytes (first ∷ (each ++ (last ∷ [])))
-    → Restores bytes (connectionsOf (first ∷ (each ++ (last ∷ []))))
-unfolding connectionsOf image pieces countPiece treePiece sound
-restores-parts bytes first each last k₁ s₁ n c k₃ b a =
-    let cs = connectionsOf (first ∷ (each ++ (last ∷ []))) in
-    let p = inside first each last k₁ c k₃ in
-    let w = laid each 0 (omega arith) (sym (sound-from each) ∙ ap soundRecords (sym (p .0)) ∙ a .rising) c (each-left (λ r. AllBytes (r .payload)) each (last ∷ []) (b .1)) in
-    let slots : cs ≡ w .slots = ap restored (p .0) ∙ w .placed in
+-- A record is its kind and its payload.
+piece-is : (r : Piece) (kind : ℕ) (payload : List ℕ) → r .kind ≡ kind → payload ≡ r .payload → record { kind = kind; payload = payload } ≡ r
+piece-is r kind payload k p = λ i. record { kind = sym k i; payload = p i }
+
+accepted-restores : (bytes : List ℕ) (rs : List Piece) → Each (λ r. AllBytes (r .payload)) rs → Accepted bytes rs → Restores bytes (connectionsOf rs)
+unfolding connectionsOf image pieces countPiece treePiece sound scheduleOf countIn
+accepted-restores bytes rs b a =
+    let n = countIn rs in
+    let p = a .parts in
+    let first = p .first in
+    let each = p .each in
+    let last = p .last in
+    let cs = connectionsOf rs in
+    let held = subst (Each (λ r. AllBytes (r .payload))) (p .whole) b in
+    let inner : connectionsIn rs ≡ each = connections-inside n rs p in
+    let w = laid each 0 (omega arith) (sym (sound-from each) ∙ ap soundRecords (sym inner) ∙ a .rising) (p .connections) (each-left (λ r. AllBytes (r .payload)) each (last ∷ []) (held .1)) in
+    let slots : cs ≡ w .slots = ap restored inner ∙ w .placed in
     let again : connectionPieces 0 cs ≡ each = ap (connectionPieces 0) slots ∙ w .again in
-    let count : little 2 (length each) ≡ first .payload = ap₂ little (sym s₁) (sym n) ∙ number-little (first .payload) (b .0) in
-    let tree : treeFor cs ≡ last .payload = sym (a .tree) ∙ p .1 in
+    let says : length each ≡ littleNumber (first .payload) = p .number ∙ ap countIn (p .whole) in
+    let count : little 2 (length each) ≡ first .payload = ap₂ little (sym (p .counts .size-is)) says ∙ number-little (first .payload) (held .0) in
+    let tree : treeFor cs ≡ last .payload = sym (a .tree) ∙ tree-inside n rs p in
     record {
       long = ap length slots ∙ omega (arith, w .long);
       isSound = ap₂ _&&_ (ap allSound slots ∙ w .numbers) (a .separate);
       saved =
-          ap₂ (λ (rs : List Piece) (t : Piece). joined (countPiece (length rs) ∷ (rs ++ (t ∷ [])))) again (λ i. record { kind = sym k₃ i; payload = tree i })
-          ∙ ap (λ (r : Piece). joined (r ∷ (each ++ (last ∷ [])))) (λ i. record { kind = sym k₁ i; payload = count i })
-          ∙ a .records;
+          ap₂ (λ (l : List Piece) (t : Piece). joined (countPiece (length l) ∷ (l ++ (t ∷ [])))) again (piece-is last treeKind (treeFor cs) (p .ends .kind-is) tree)
+          ∙ ap (λ (r : Piece). joined (r ∷ (each ++ (last ∷ [])))) (piece-is first countKind (little 2 (length each)) (p .counts .kind-is) count)
+          ∙ ap joined (sym (p .whole)) ∙ a .records;
     }
-
-accepted-restores : (bytes : List ℕ) (rs : List Piece) → Each (λ r. AllBytes (r .payload)) rs → Accepted bytes rs → Restores bytes (connectionsOf rs)
-accepted-restores bytes rs b a =
-    let p = shaped-parts rs (a .shape) in
-    let q = p .ends in
-    subst (λ (rs : List Piece). Each (λ r. AllBytes (r .payload)) rs → Accepted bytes rs → Restores bytes (connectionsOf rs))
-    (sym (p .begun ∙ ap {B = List Piece} (λ l. p .first ∷ l) (q .whole)))
-    (restores-parts bytes (p .first) (q .each) (q .last) (p .kind-1) (p .size-2) (sym (q .number)) (q .connections) (q .kind-3))
-    b a
 
 -- A load is refused, or its bytes are the image of the sound connections that it gives.
 pub load-cases {ℓ} : (s : Schedule) (bytes : List ℕ) → AllBytes bytes → (P : Outcome → Type ℓ) → ((n : ℕ) → P (refusing s n))
@@ -559,23 +470,23 @@ load-cases s bytes b P f g =
 
 -- Load accepts bytes exactly when they are the image of some sound schedule.
 pub load-exactly : (s : Schedule) (bytes : List ℕ) → AllBytes bytes
-    → ((n : ℕ) × (load s bytes .answer ≡ loaded n)) ↔ ((cs : List Connection) × (length cs ≡ handles) × (sound cs ≡ true) × IsImage bytes cs)
+    → ((n : ℕ) × (load s bytes .answer ≡ loaded n)) ↔ ((t : Schedule) × (length (t .connections) ≡ handles) × (sound (t .connections) ≡ true) × IsImage bytes t)
+unfolding scheduleOf
 load-exactly s bytes b = (
   λ p. to (p .0) (p .1),
-  λ w. (liveCount (w .0), ap (λ (l : List ℕ). load s l .answer) (w .3) ∙ ap (λ (o : Outcome). o .answer) (load-image s (w .0) (w .1) (w .2))),
+  λ w. (liveCount (w .0 .connections), ap (λ (l : List ℕ). load s l .answer) (w .3) ∙ ap (λ (o : Outcome). o .answer) (load-image s (w .0) (w .1) (w .2))),
 )
   where
-    to : (n : ℕ) → load s bytes .answer ≡ loaded n → (cs : List Connection) × (length cs ≡ handles) × (sound cs ≡ true) × IsImage bytes cs
+    to : (n : ℕ) → load s bytes .answer ≡ loaded n → (t : Schedule) × (length (t .connections) ≡ handles) × (sound (t .connections) ≡ true) × IsImage bytes t
     to n =
-        load-cases s bytes b (λ o. o .answer ≡ loaded n → (cs : List Connection) × (length cs ≡ handles) × (sound cs ≡ true) × IsImage bytes cs)
+        load-cases s bytes b (λ o. o .answer ≡ loaded n → (t : Schedule) × (length (t .connections) ≡ handles) × (sound (t .connections) ≡ true) × IsImage bytes t)
         (λ m e. let z : _≡_ {A = ℕ} 0 1 = cc in absurd (omega arith))
-        (λ cs m r e. (cs, r .long, r .isSound, sym (r .saved)))
+        (λ cs m r e. (scheduleOf cs, r .long, r .isSound, sym (r .saved)))
 
 -- The schedule that it gives, saved, gives the same bytes.
-pub load-saves : (s : Schedule) (bytes : List ℕ) (n : ℕ) → AllBytes bytes → load s bytes .answer ≡ loaded n → image (load s bytes .schedule .connections) ≡ bytes
-unfolding scheduleOf
+pub load-saves : (s : Schedule) (bytes : List ℕ) (n : ℕ) → AllBytes bytes → load s bytes .answer ≡ loaded n → image (load s bytes .schedule) ≡ bytes
 load-saves s bytes n b =
-    load-cases s bytes b (λ o. o .answer ≡ loaded n → image (o .schedule .connections) ≡ bytes)
+    load-cases s bytes b (λ o. o .answer ≡ loaded n → image (o .schedule) ≡ bytes)
     (λ m e. let z : _≡_ {A = ℕ} 0 1 = cc in absurd (omega arith))
     (λ cs m r e. r .saved)
 

@@ -15,12 +15,16 @@ use Rattle.rules.specs.Sound.{sound}
 use Rattle.rules.specs.Good.{Good, scheduleOf, fresh, treeFor}
 use Rattle.rules.specs.Nodes.{nodeBit}
 use Rattle.rules.specs.Answers.{Outcome, refusing, loaded}
-use Rattle.rules.specs.Image.{joined, countPiece, connectionPieces, image}
+use Rattle.rules.specs.Handles.{eachLive}
+use Rattle.rules.specs.Records.{joined}
+use Rattle.rules.specs.Form.{treeKind, treeSize}
+use Rattle.rules.specs.Image.{countPiece, connectionPiece, connectionPieces, image}
 use Rattle.rules.specs.Load.{load}
 use Rattle.blocks.proofs.TreeLaws.{tree-bit}
 use Rattle.blocks.proofs.SoundLaws.{scheduled-good}
 use Rattle.blocks.proofs.ScheduleLaws.{fresh-is-good}
-use Rattle.images.proofs.ImageLaws.{liveCount, load-image}
+use Rattle.calls.proofs.EachLaws.{liveCount}
+use Rattle.images.proofs.ImageLaws.{load-image}
 
 -- A connection of length 1.
 pub single : ℕ → ℕ → ℕ → Connection
@@ -80,14 +84,14 @@ over-is-not-good g = false≢true (g .isSound)
 
 -- ---- images, and bytes that load refuses
 -- The image of a full house is accepted.
-pub house-is-loaded : (s : Schedule) → load s (image house) .answer ≡ loaded 64
+pub house-is-loaded : (s : Schedule) → load s (image (scheduleOf house)) .answer ≡ loaded 64
 unfolding house scheduleOf liveCount
-house-is-loaded s = ap (λ (o : Outcome). o .answer) (load-image s house (house-is-good .places) (house-is-good .isSound))
+house-is-loaded s = ap (λ (o : Outcome). o .answer) (load-image s (scheduleOf house) (house-is-good .places) (house-is-good .isSound))
 
 -- The records of these connections, handles from 0 on, before an empty tree.
 pub treeless : List Connection → List ℕ
-unfolding joined countPiece connectionPieces
-treeless cs = joined (countPiece (length cs) ∷ (connectionPieces 0 cs ++ (record { kind = 3; payload = replicate 128 0 } ∷ [])))
+unfolding joined countPiece connectionPiece eachLive
+treeless cs = joined (countPiece (length cs) ∷ (connectionPieces 0 cs ++ (record { kind = treeKind; payload = replicate treeSize 0 } ∷ [])))
 
 -- 9: a byte is left over.
 pub left-over-is-9 : (s : Schedule) → load s (treeless [] ++ (0 ∷ [])) ≡ refusing s 9

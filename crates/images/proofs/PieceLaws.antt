@@ -5,12 +5,14 @@ use mathlib.Core.List.{List, [], _∷_, _++_, append-assoc}
 use Prim.Native.Nat.{ℕ, zero, suc, _+_, _^_, _<_, _≤_}
 use native.Mathlib.Omega.{arith}
 use lib.Pow.{pow-mono}
-use lib.ListN.{length, take, drop, length-append, length-take, length-drop}
-use lib.Seq.{take-at, drop-at, take-all, take-add}
+use lib.ListN.{length, take, drop, length-append, length-take, length-drop, take-append-drop}
+use lib.Seq.{take-at, drop-at, take-all, take-add, take-suc, drop-cons, drop-drop, drop-append-seam, take-append-le, drop-append-le}
 use Rattle.rules.specs.declared.Connection.{Connection}
 use Rattle.rules.specs.Bytes.{little, littleNumber}
-use Rattle.rules.specs.Image.{Piece, written, joined, connectionPiece}
-use Rattle.rules.specs.Load.{piecesIn, piecesOf, fieldIn, handleIn, connectionIn}
+use Rattle.rules.specs.Records.{Piece, written, joined, begin, nth, piecesIn, piecesOf}
+use Rattle.rules.specs.Form.{connectionKind, connectionSize}
+use Rattle.rules.specs.Image.{connectionPiece}
+use Rattle.rules.specs.Fields.{fieldIn, handleIn, connectionIn}
 use Rattle.rules.specs.Sound.{Numbers}
 use Rattle.basics.proofs.BytesLaws.{AllBytes, bytes-take, bytes-drop, little-number, number-little}
 use Rattle.blocks.proofs.ClassLaws.{within-depth}
@@ -25,6 +27,11 @@ abbrev pub Each : (Piece → Type 0) → List Piece → Type 0
 Each P [] = Unit {0}
 Each P (r ∷ rs) = P r × Each P rs
 
+pub each-nth : (P : Piece → Type 0) (rs : List Piece) (i : ℕ) → i < length rs → Each P rs → P (nth rs i)
+each-nth P [] i l e = absurd (omega arith)
+each-nth P (r ∷ rs) zero l e = e .0
+each-nth P (r ∷ rs) (suc i) l e = each-nth P rs i (omega arith) (e .1)
+
 -- ---- records one after the other
 -- A record is its payload and four bytes before it.
 pub written-length : (r : Piece) → length (written r) ≡ 4 + length (r .payload)
@@ -36,6 +43,44 @@ unfolding joined
 joined-append [] ys = refl
 joined-append (x ∷ xs) ys = ap (λ (l : List ℕ). written x ++ l) (joined-append xs ys) ∙ sym (append-assoc (written x) (joined xs) (joined ys))
 
+-- ---- where each begins
+module _ (rs : List Piece) (i : ℕ) (l : i < length rs) where
+  -- A record begins after the one before it, which has four bytes and its payload.
+  pub begin-next : begin rs (suc i) ≡ begin rs i + (4 + length (nth rs i .payload))
+  unfolding joined
+  begin-next =
+      let r = nth rs i in
+      let e : joined (take (suc i) rs) ≡ joined (take i rs) ++ joined (r ∷ []) = ap joined (take-suc rs i _ l) ∙ joined-append (take i rs) (r ∷ []) in
+      omega (arith, ap {B = ℕ} length e ∙ length-append (joined (take i rs)) (joined (r ∷ [])), length-append (written r) [], written-length r)
+
+  -- From there on the bytes are the record, and the records after it.
+  pub begin-here : drop (begin rs i) (joined rs) ≡ written (nth rs i) ++ joined (drop (suc i) rs)
+  unfolding joined
+  begin-here =
+      ap (λ (bytes : List ℕ). drop (begin rs i) bytes) (ap joined (sym (take-append-drop i rs)) ∙ joined-append (take i rs) (drop i rs))
+      ∙ drop-append-seam (joined (take i rs)) (joined (drop i rs))
+      ∙ ap joined (drop-cons rs i _ l)
+
+-- What the bytes say where a record stands: its size, and each part of its payload.
+module _ (bytes : List ℕ) (at : ℕ) (r : Piece) (later : List ℕ) (here : drop at bytes ≡ written r ++ later) where
+  pub stands-whole : at + (4 + length (r .payload)) ≤ length bytes
+  stands-whole = omega (arith, ap {B = ℕ} length here, length-drop at bytes, length-append (written r) later, written-length r)
+
+  pub stands-size : length (r .payload) < 65536 → littleNumber (take 2 (drop at bytes)) ≡ length (r .payload)
+  unfolding written
+  stands-size l = ap (λ (d : List ℕ). littleNumber (take 2 d)) here ∙ little-number 2 (length (r .payload)) l
+
+  pub stands-part : (start width : ℕ) → start + width ≤ length (r .payload) → take width (drop (at + 4 + start) bytes) ≡ take width (drop start (r .payload))
+  unfolding written
+  stands-part start width l =
+      let from : start ≤ length (r .payload) = omega arith in
+      let upto : width ≤ length (drop start (r .payload)) = simp length-drop (omega arith) in
+      ap (take width) (sym (ap (drop start) (drop-drop 4 at bytes) ∙ drop-drop start (at + 4) bytes)
+      ∙ ap (λ (d : List ℕ). drop start (drop 4 d)) here
+      ∙ drop-append-le start (r .payload) later from)
+      ∙ take-append-le width (drop start (r .payload)) later upto
+
+-- ---- written and read back
 -- With n for a bound, as many records as there are.
 pieces-in : (rs : List Piece) (n : ℕ) → length (joined rs) ≤ n → Each Fitting rs → piecesIn n (joined rs) ≡ rs
 unfolding joined written piecesIn
@@ -65,12 +110,32 @@ pieces-in-bytes (suc n) (b ∷ bs) h =
     let size = littleNumber (take 2 (b ∷ bs)) in
     (bytes-take size (drop 4 (b ∷ bs)) (bytes-drop 4 (b ∷ bs) h), pieces-in-bytes n (drop (4 + size) (b ∷ bs)) (bytes-drop (4 + size) (b ∷ bs) h))
 
--- The records of bytes hold bytes.
+-- Two bytes say less than 2^16.
+two-small : (d : List ℕ) → AllBytes d → littleNumber (take 2 d) < 65536
+unfolding littleNumber
+two-small [] h = omega arith
+two-small (b ∷ []) h = omega (arith, h 0)
+two-small (b ∷ c ∷ d) h = omega (arith, h 0, h 1)
+
+pieces-in-small : (n : ℕ) (bytes : List ℕ) → AllBytes bytes → Each (λ r. length (r .payload) < 65536) (piecesIn n bytes)
+unfolding piecesIn
+pieces-in-small zero bytes h = tt
+pieces-in-small (suc n) [] h = tt
+pieces-in-small (suc n) (b ∷ bs) h =
+    let size = littleNumber (take 2 (b ∷ bs)) in
+    (simp length-take (omega (arith, two-small (b ∷ bs) h)), pieces-in-small n (drop (4 + size) (b ∷ bs)) (bytes-drop (4 + size) (b ∷ bs) h))
+
+-- The size of each record of bytes fits in two,
+pub pieces-small : (bytes : List ℕ) → AllBytes bytes → Each (λ r. length (r .payload) < 65536) (piecesOf bytes)
+unfolding piecesOf
+pieces-small bytes h = pieces-in-small (length bytes) bytes h
+
+-- and they hold bytes.
 pub pieces-bytes : (bytes : List ℕ) → AllBytes bytes → Each (λ r. AllBytes (r .payload)) (piecesOf bytes)
 unfolding piecesOf
 pieces-bytes bytes h = pieces-in-bytes (length bytes) bytes h
 
--- ---- a connection in 14 bytes
+-- ---- a connection in its bytes
 -- The numbers of a connection fit in their bytes.
 pub record Narrow (c : Connection) : Type 0 where
   pub k-narrow : c .k < 256
@@ -112,16 +177,16 @@ field-written p s w h l =
     rw e at (number-little (take w (drop s p)) (bytes-take w (drop s p) (bytes-drop s p h))) in
     rw (f, take-add s w p)
 
--- 14 bytes of kind 2 are those of the connection that they say.
-pub connection-written : (r : Piece) → r .kind ≡ 2 → length (r .payload) ≡ 14 → AllBytes (r .payload) → connectionPiece (handleIn r) (connectionIn r) ≡ r
+-- The bytes of a connection's record are those of the connection that they say.
+pub connection-written : (r : Piece) → r .kind ≡ connectionKind → length (r .payload) ≡ connectionSize → AllBytes (r .payload) → connectionPiece (handleIn r) (connectionIn r) ≡ r
 unfolding connectionPiece handleIn connectionIn
 connection-written r q l h = λ i. record { kind = sym q i; payload = whole i }
   where
-    then : (s w : ℕ) → s + w ≤ 14 → {x : List ℕ} → x ≡ take s (r .payload) → x ++ little w (fieldIn r s w) ≡ take (s + w) (r .payload)
+    then : (s w : ℕ) → s + w ≤ connectionSize → {x : List ℕ} → x ≡ take s (r .payload) → x ++ little w (fieldIn r s w) ≡ take (s + w) (r .payload)
     then s w g e = rw e (field-written (r .payload) s w h (omega arith))
 
     whole : connectionPiece (handleIn r) (connectionIn r) .payload ≡ r .payload
     whole =
         then 10 4 (omega arith)
         (then 8 2 (omega arith) (then 6 2 (omega arith) (then 4 2 (omega arith) (then 2 2 (omega arith) (then 1 1 (omega arith) (then 0 1 (omega arith) {x = []} refl))))))
-        ∙ take-all 14 (r .payload) (omega arith)
+        ∙ take-all connectionSize (r .payload) (omega arith)

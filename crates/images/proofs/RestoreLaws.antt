@@ -7,12 +7,11 @@ use Prim.Native.Nat.{ℕ, zero, suc, _+_, _%_, _^_, _<_, _≤_}
 use native.Mathlib.Decide.{ℕ-discrete}
 use native.Mathlib.Omega.{arith}
 use lib.Pow.{pow-pos}
-use lib.ListN.{length, set, replicate, length-set, length-replicate}
-use lib.Seq.{set-comm}
+use lib.ListN.{length, take, set, replicate, length-set, length-replicate}
+use lib.Seq.{take-all, take-suc, set-comm}
 use lib.Dec.{ltb}
 use borrow.Author.Tests.{lt-ltb, ltb-true}
 use Rattle.rules.specs.declared.Connection.{Connection}
-use Rattle.rules.specs.Below.{tabulate}
 use Rattle.rules.specs.Time.{minusMod}
 use Rattle.rules.specs.Ownership.{handles, nobody, at, owns, taken}
 use Rattle.rules.specs.Classes.{runFree, setRun}
@@ -20,10 +19,10 @@ use Rattle.rules.specs.TreeBytes.{treeOf}
 use Rattle.rules.specs.Sound.{soundNumbers, allSound, apart, sound}
 use Rattle.rules.specs.Good.{treeFor}
 use Rattle.rules.specs.Admit.{isOpen}
-use Rattle.rules.specs.Image.{Piece}
-use Rattle.rules.specs.Load.{handleIn, connectionIn, allNumbersSound, rising, soundRecords, restored}
+use Rattle.rules.specs.Records.{Piece, nth}
+use Rattle.rules.specs.Fields.{handleIn, connectionIn}
+use Rattle.rules.specs.Load.{allNumbersSound, rising, soundRecords, restored}
 use Rattle.basics.proofs.BoolLaws.{both, is-false}
-use Rattle.basics.proofs.BelowLaws.{tabulate-last}
 use Rattle.blocks.proofs.ClassLaws.{within-depth}
 use Rattle.blocks.proofs.EndlessTime.{minusMod-only}
 use Rattle.rules.specs.Sound.{Numbers}
@@ -189,26 +188,34 @@ module _ (xs : List Piece) (r : Piece) (e : soundRecords (xs ++ (r ∷ [])) ≡ 
       (dead-runs (c .k) (c .anchor) (at (restored xs) (handleIn r)) (ap (λ (x : Connection). x .live) (one-more .unused))) c (live-runs c refl) (omega arith)
       ∙ ap treeFor (sym placed-here)
 
--- ---- the first i of n records
-module _ (f : ℕ → Piece) where
-  -- They are sound too.
-  pub sound-first : (n i : ℕ) → i ≤ n → soundRecords (tabulate n f) ≡ true → soundRecords (tabulate i f) ≡ true
-  sound-first zero i l e = let q : 0 ≡ i = omega arith in subst (λ (m : ℕ). soundRecords (tabulate m f) ≡ true) q e
-  sound-first (suc n) i l e =
-      by-cases (ℕ-discrete i (suc n))
-      (λ q. subst (λ (m : ℕ). soundRecords (tabulate m f) ≡ true) (sym q) e)
-      (λ q. sound-first n i (omega arith) (sound-earlier (tabulate n f) (f n) (ap soundRecords (sym (tabulate-last n f)) ∙ e)))
+-- ---- the first i of the records
+sound-first-from : (h : ℕ) (rs : List Piece) (i : ℕ) → soundFrom h rs ≡ true → soundFrom h (take i rs) ≡ true
+unfolding soundFrom
+sound-first-from h [] zero e = refl
+sound-first-from h [] (suc i) e = refl
+sound-first-from h (r ∷ rs) zero e = refl
+sound-first-from h (r ∷ rs) (suc i) e =
+    let p = rising-exactly h r rs .0 e in
+    rising-exactly h r (take i rs) .1 (record { below = p .below; above = p .above; numbers = p .numbers; later = sound-first-from (suc (handleIn r)) rs i (p .later) })
 
-  -- Where they clash, the whole does.
-  pub clash-first : (n i : ℕ) → i ≤ n → soundRecords (tabulate n f) ≡ true → apart (restored (tabulate i f)) ≡ false → apart (restored (tabulate n f)) ≡ false
-  clash-first zero i l e a = let q : i ≡ 0 = omega arith in subst (λ (m : ℕ). apart (restored (tabulate m f)) ≡ false) q a
-  clash-first (suc n) i l e a =
+module _ (rs : List Piece) (e : soundRecords rs ≡ true) where
+  -- They are sound too.
+  pub sound-first : (i : ℕ) → soundRecords (take i rs) ≡ true
+  sound-first i = sound-from (take i rs) ∙ sound-first-from 0 rs i (sym (sound-from rs) ∙ e)
+
+  -- And so they are with the one after them.
+  pub sound-next : (i : ℕ) → i < length rs → soundRecords (take i rs ++ (nth rs i ∷ [])) ≡ true
+  sound-next i l = ap soundRecords (sym (take-suc rs i _ l)) ∙ sound-first (suc i)
+
+  -- Where they clash, more do.
+  pub clash-first : (n i : ℕ) → i ≤ n → n ≤ length rs → apart (restored (take i rs)) ≡ false → apart (restored (take n rs)) ≡ false
+  clash-first zero i l m a = let q : i ≡ 0 = omega arith in subst (λ (k : ℕ). apart (restored (take k rs)) ≡ false) q a
+  clash-first (suc n) i l m a =
       by-cases (ℕ-discrete i (suc n))
-      (λ q. subst (λ (m : ℕ). apart (restored (tabulate m f)) ≡ false) q a)
+      (λ q. subst (λ (k : ℕ). apart (restored (take k rs)) ≡ false) q a)
       (λ q.
-      let s = ap soundRecords (sym (tabulate-last n f)) ∙ e in
-      ap (λ (rs : List Piece). apart (restored rs)) (tabulate-last n f)
-      ∙ clash-earlier (tabulate n f) (f n) s (clash-first n i (omega arith) (sound-earlier (tabulate n f) (f n) s) a))
+      ap (λ (xs : List Piece). apart (restored xs)) (take-suc rs n _ m)
+      ∙ clash-earlier (take n rs) (nth rs n) (sound-next n m) (clash-first n i (omega arith) (omega arith) a))
 
 -- ---- no record
 pub apart-none : apart (restored []) ≡ true

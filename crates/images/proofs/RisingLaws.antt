@@ -9,8 +9,9 @@ use lib.Dec.{leb, ltb}
 use borrow.Author.Tests.{le-leb, leb-true, lt-ltb, ltb-true}
 use Rattle.rules.specs.Ownership.{handles}
 use Rattle.rules.specs.Sound.{soundNumbers}
-use Rattle.rules.specs.Image.{Piece}
-use Rattle.rules.specs.Load.{handleIn, connectionIn, allNumbersSound, rising, soundRecords}
+use Rattle.rules.specs.Records.{Piece}
+use Rattle.rules.specs.Fields.{handleIn, connectionIn}
+use Rattle.rules.specs.Load.{allNumbersSound, rising, soundRecords}
 use Rattle.basics.proofs.BoolLaws.{both, is-false}
 
 -- The numbers are sound, and each handle is at least h and above the one before it.

@@ -13,7 +13,8 @@ use Rattle.rules.specs.Answers.{Outcome, loaded}
 use Rattle.rules.specs.Image.{image}
 use Rattle.rules.specs.Load.{load}
 use Rattle.basics.proofs.BelowLaws.{least-ext}
-use Rattle.images.proofs.ImageLaws.{liveCount, cleared, cleared-owns, cleared-tree, cleared-same, load-image}
+use Rattle.calls.proofs.EachLaws.{liveCount}
+use Rattle.images.proofs.ImageLaws.{cleared, cleared-owns, cleared-tree, cleared-same, load-image}
 
 cleared-live : (cs : List Connection) (h : ℕ) → at cs h .live ≡ true → at (cleared cs) h ≡ at cs h
 unfolding cleared
@@ -22,24 +23,24 @@ cleared-live (c ∷ cs) zero e = ap (λ (v : Bool). cond v c nobody) e
 cleared-live (c ∷ cs) (suc h) e = cleared-live cs h e
 
 module _ (s t : Schedule) (good : Good t) where
-  comes-back : load s (image (t .connections)) ≡ record { answer = loaded (liveCount (t .connections)); schedule = scheduleOf (cleared (t .connections)) }
-  comes-back = load-image s (t .connections) (good .places) (good .isSound)
+  comes-back : load s (image t) ≡ record { answer = loaded (liveCount (t .connections)); schedule = scheduleOf (cleared (t .connections)) }
+  comes-back = load-image s t (good .places) (good .isSound)
 
-  back : load s (image (t .connections)) .schedule ≡ scheduleOf (cleared (t .connections))
+  back : load s (image t) .schedule ≡ scheduleOf (cleared (t .connections))
   back = ap (λ (o : Outcome). o .schedule) comes-back
 
   -- Each live connection is the same.
-  pub round-connection : (h : ℕ) → connection t h .live ≡ true → connection (load s (image (t .connections)) .schedule) h ≡ connection t h
+  pub round-connection : (h : ℕ) → connection t h .live ≡ true → connection (load s (image t) .schedule) h ≡ connection t h
   unfolding scheduleOf
   round-connection h e = ap (λ (x : Schedule). connection x h) back ∙ cleared-live (t .connections) h e
 
   -- So is every byte of the tree.
-  pub round-tree : load s (image (t .connections)) .schedule .tree .bytes ≡ t .tree .bytes
+  pub round-tree : load s (image t) .schedule .tree .bytes ≡ t .tree .bytes
   unfolding scheduleOf
   round-tree = ap (λ (x : Schedule). x .tree .bytes) back ∙ cleared-tree (t .connections) ∙ sym (good .hasTree)
 
   -- And the owner of every block.
-  pub round-owner : (b : ℕ) → ownerOf (load s (image (t .connections)) .schedule) b ≡ ownerOf t b
+  pub round-owner : (b : ℕ) → ownerOf (load s (image t) .schedule) b ≡ ownerOf t b
   unfolding ownerOf scheduleOf
   round-owner b =
       ap (λ (x : Schedule). ownerOf x b) back
@@ -50,5 +51,5 @@ module _ (s t : Schedule) (good : Good t) where
   its-own = ap (λ (x : List ℕ). record { connections = t .connections; tree = record { bytes = x } }) (sym (good .hasTree))
 
   -- Where free slots are zeros, which every call keeps, it is the equal value.
-  pub round-value : FreeSlotsZero t → load s (image (t .connections)) ≡ record { answer = loaded (liveCount (t .connections)); schedule = t }
+  pub round-value : FreeSlotsZero t → load s (image t) ≡ record { answer = loaded (liveCount (t .connections)); schedule = t }
   round-value z = comes-back ∙ ap (λ (x : Schedule). record { answer = loaded (liveCount (t .connections)); schedule = x }) (ap scheduleOf (cleared-same (t .connections) z) ∙ its-own)

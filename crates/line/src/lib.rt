@@ -3,5 +3,7 @@
 mod answering;
 mod saying;
 
+pub use answering::put_loading;
 pub use answering::put_reply;
+pub use answering::put_saving;
 pub use saying::says;

@@ -1,65 +1,68 @@
 //! What a line says.
 ghost use mathlib.Core.Path.{_≡_};
-ghost use Rattle.rules.specs.Commands.{says as saysRule};
-ghost use Rattle.line.specs.Promises.{saysIf};
+ghost use Rattle.rules.specs.Commands.{isForm, named as namedRule, says as saysRule};
 use rules::Command;
 use rules::Line;
-use text::numbers_from;
-use text::opens;
+use text::Row;
+use text::find;
+use text::is_word;
+use text::read_row;
 
-fn said(right: bool, command: Command) -> Line
-    ensures { λ r. ⌜ r ≡ saysIf right command ⌝ }
+// As many as the longest form has: mostNumbers of specs/Commands.
+const MOST_NUMBERS: usize = 4;
+
+// Whether a word and its numbers have a form: its word, and so many numbers.
+fn is_form(word: &[u8], numbers: &[u32], form: &[u8], count: usize) -> bool
+    ensures { λ r. ⌜ r ≡ isForm (now (word .entry)) (now (numbers .entry)) (now (form .entry)) count ⌝ }
 {
-    if right {
-        Line::Says(command)
-    } else {
-        Line::Bad
+    if numbers.len() != count {
+        return false;
     }
+    is_word(word, form)
+}
+
+// The command of a word and its numbers.
+fn named(word: &[u8], n: &[u32]) -> Line
+    ensures { λ r. ⌜ r ≡ namedRule (now (word .entry)) (now (n .entry)) ⌝ }
+{
+    if is_form(word, n, b"admit", 4) {
+        return Line::Says(Command::Admit {
+            handle: n[0],
+            interval: n[1],
+            floor: n[2],
+            ceiling: n[3],
+        });
+    }
+    if is_form(word, n, b"drop", 1) {
+        return Line::Says(Command::Drop(n[0]));
+    }
+    if is_form(word, n, b"report", 2) {
+        return Line::Says(Command::Report {
+            handle: n[0],
+            sample: n[1],
+        });
+    }
+    if is_form(word, n, b"owner", 1) {
+        return Line::Says(Command::Owner(n[0]));
+    }
+    if is_form(word, n, b"anchor", 2) {
+        return Line::Says(Command::Anchor {
+            handle: n[0],
+            block: n[1],
+        });
+    }
+    Line::Bad
 }
 
 /// The command that a line is, written out; any other line is bad.
 pub fn says(line: &[u8]) -> Line
     ensures { λ r. ⌜ r ≡ saysRule (now (line .entry)) ⌝ }
 {
-    if opens(line, b"admit") {
-        let n = numbers_from(line, 5, 4);
-        return said(
-            n.right,
-            Command::Admit {
-                handle: n.values[0],
-                interval: n.values[1],
-                floor: n.values[2],
-                ceiling: n.values[3],
-            },
-        );
-    }
-    if opens(line, b"drop") {
-        let n = numbers_from(line, 4, 1);
-        return said(n.right, Command::Drop(n.values[0]));
-    }
-    if opens(line, b"report") {
-        let n = numbers_from(line, 6, 2);
-        return said(
-            n.right,
-            Command::Report {
-                handle: n.values[0],
-                sample: n.values[1],
-            },
-        );
-    }
-    if opens(line, b"owner") {
-        let n = numbers_from(line, 5, 1);
-        return said(n.right, Command::Owner(n.values[0]));
-    }
-    if opens(line, b"anchor") {
-        let n = numbers_from(line, 6, 2);
-        return said(
-            n.right,
-            Command::Anchor {
-                handle: n.values[0],
-                block: n.values[1],
-            },
-        );
-    }
-    Line::Bad
+    let mut numbers = [0u32; MOST_NUMBERS];
+    let end = find(line, 0, b' ');
+    let read = read_row(line, end, &mut numbers);
+    let Row::Count(count) = read else {
+        return Line::Bad;
+    };
+    named(&line[..end], &numbers[..count])
 }

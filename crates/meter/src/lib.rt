@@ -1,7 +1,10 @@
 //! The rule that moves a meter, on numbers.
 ghost use mathlib.Core.Path.{_≡_};
 ghost use Prim.Native.Nat.{_≤_};
+ghost use Rattle.rules.specs.Time.{listMicros};
 ghost use Rattle.rules.specs.Meter.{moved as movedRule, need as needRule, target as targetRule, movedMeter};
+use rules::BLOCK_MICROS;
+use rules::GUARD_MICROS;
 use rules::Meter;
 
 // e + floor((s - e) / 8), the division rounded toward minus infinity.
@@ -17,10 +20,10 @@ fn moved(estimate: u32, sample: u32) -> u32
 
 // (e + 2,500) / 7,500 rounded up.
 fn need(estimate: u32) -> u32
-    requires { ⌜ estimate ≤ 4000000 ⌝ }
+    requires { ⌜ estimate ≤ listMicros ⌝ }
     ensures { λ r. ⌜ r ≡ needRule estimate ⌝ }
 {
-    (estimate + 2500 + 7499) / 7500
+    (estimate + GUARD_MICROS + (BLOCK_MICROS - 1)) / BLOCK_MICROS
 }
 
 // Need, raised to the floor or lowered to the ceiling.
@@ -41,7 +44,7 @@ fn target(needed: u32, floor: u16, ceiling: u16) -> u16
 
 // The meter moved by a sample: the new estimate, with the length that it aims at.
 fn moved_meter(m: Meter, sample: u32, floor: u16, ceiling: u16) -> Meter
-    requires { ⌜ (m .estimate ≤ 4000000) × (sample ≤ 4000000) ⌝ }
+    requires { ⌜ (m .estimate ≤ listMicros) × (sample ≤ listMicros) ⌝ }
     ensures { λ r. ⌜ r ≡ movedMeter m sample floor ceiling ⌝ }
 {
     let e = moved(m.estimate, sample);
@@ -53,7 +56,7 @@ fn moved_meter(m: Meter, sample: u32, floor: u16, ceiling: u16) -> Meter
 
 // The meter, lent to the rule that moves it.
 fn move_lent(m: &mut Meter, sample: u32, floor: u16, ceiling: u16)
-    requires { ⌜ (now m .estimate ≤ 4000000) × (sample ≤ 4000000) ⌝ }
+    requires { ⌜ (now m .estimate ≤ listMicros) × (sample ≤ listMicros) ⌝ }
     ensures { λ _. ⌜ now (m .exit) ≡ movedMeter (now (m .entry)) sample floor ceiling ⌝ }
 {
     *m = moved_meter(*m, sample, floor, ceiling);
@@ -61,7 +64,7 @@ fn move_lent(m: &mut Meter, sample: u32, floor: u16, ceiling: u16)
 
 /// Makes a connection's meter, lends it to the rule with a sample, and hands back what came of it.
 pub fn move_meter(estimate: u32, length: u16, sample: u32, floor: u16, ceiling: u16) -> Meter
-    requires { ⌜ (estimate ≤ 4000000) × (sample ≤ 4000000) ⌝ }
+    requires { ⌜ (estimate ≤ listMicros) × (sample ≤ listMicros) ⌝ }
     ensures { λ r. ⌜ r ≡ movedMeter (record { estimate = estimate; length = length }) sample floor ceiling ⌝ }
 {
     let mut m = Meter { estimate, length };

@@ -10,7 +10,7 @@ use Rattle.rules.specs.declared.Schedule.{Schedule}
 use Rattle.rules.specs.declared.Refusal.the-variants.{HandleAbove63}
 use Rattle.rules.specs.Ownership.{largestK, taken}
 use Rattle.rules.specs.Mirror.{mirrored}
-use Rattle.rules.specs.Good.{scheduleOf}
+use Rattle.rules.specs.Good.{withConnection}
 use Rattle.rules.specs.Refusals.{number}
 use Rattle.rules.specs.Answers.{Outcome, refusing, ok}
 use Rattle.rules.specs.Handles.{isLive}
@@ -24,7 +24,7 @@ use Rattle.calls.proofs.RefusalLaws.{decided-map, decided-cases}
 -- What becomes of a plan.
 abbrev pub carry : Schedule → ℕ → ℕ → ℕ → Step → Outcome
 carry s h f c (gives n) = refusing s 0
-carry s h f c (places k A) = record { answer = ok (2 ^ k) A f; schedule = scheduleOf (set (s .connections) h (newConnection k A f c)) }
+carry s h f c (places k A) = record { answer = ok (2 ^ k) A f; schedule = withConnection s h (newConnection k A f c) }
 carry s h f c passes = refusing s 0
 carry s h f c (refuses n) = refusing s n
 

@@ -6,6 +6,7 @@ use mathlib.Core.List.{List}
 use lib.ListN.{length, getD}
 use Rattle.rules.specs.declared.Place.{Place}
 use Rattle.rules.specs.declared.Plan.{Plan}
+use Rattle.rules.specs.Time.{listBlocks}
 use Rattle.rules.specs.Classes.{classTaken}
 use Rattle.rules.specs.Mirror.{mirrored}
 use Rattle.rules.specs.TreeBytes.{bitAt}
@@ -14,8 +15,8 @@ use Rattle.tree.specs.Promises.{ByTree}
 
 -- Room for each class of the deepest row, and for each of its anchors.
 pub record Long (taken : List Bool) (anchors : List ℕ) : Type 0 where
-  pub classes : length taken ≡ 512
-  pub places : length anchors ≡ 512
+  pub classes : length taken ≡ listBlocks
+  pub places : length anchors ≡ listBlocks
 
 -- The anchors of depth k in node order.
 abbrev pub Anchors : ℕ → List ℕ → Type 0
@@ -36,8 +37,8 @@ pub record Stretches (k : ℕ) (taken : ℕ → Bool) (room : List ℕ) : Type 0
   pub clear : (A i : ℕ) → A < 2 ^ k → i < getD room A 0 → (A + i < 2 ^ k) × (classTaken taken k (A + i) ≡ false)
 
 -- By the row of what is taken.
-abbrev pub Measures : ℕ → List Bool → List ℕ → Type 0
-Measures k row room = (taken : ℕ → Bool) → Row k taken row → Stretches k taken room
+abbrev pub MeasuresRoom : ℕ → List Bool → List ℕ → Type 0
+MeasuresRoom k row room = (taken : ℕ → Bool) → Row k taken row → Stretches k taken room
 
 -- The stretches of what some test says is taken.
 abbrev pub IsRoom : ℕ → List ℕ → Type 0

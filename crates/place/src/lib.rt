@@ -1,16 +1,19 @@
-//! Where an admission goes: checks 2, 4, 5, 6 and the search for an anchor.
+//! Where an admission goes: checks 2, 4, 5, 6, and the search for the first open anchor.
 ghost use mathlib.Core.Path.{_≡_};
 ghost use Prim.Native.Nat.{_<_, _≤_, _^_};
 ghost use lib.ListN.{length};
+ghost use Rattle.rules.specs.Time.{listBlocks};
 ghost use Rattle.rules.specs.Classes.{depth};
 ghost use Rattle.place.specs.Steps.{ofInterval, ofShare, intervalStep, shareStep};
 ghost use Rattle.tree.specs.Promises.{IsTree};
-ghost use Rattle.place.specs.Promises.{Anchors, Reads, Measures, IsRoom, Searches, Places, Plans, Long};
+ghost use Rattle.place.specs.Promises.{Anchors, Reads, MeasuresRoom, IsRoom, Searches, Places, Plans, Long};
 use rules::Interval;
+use rules::LIST_BLOCKS;
 use rules::Place;
 use rules::Plan;
 use rules::Refusal;
 use rules::Share;
+use rules::TREE_BYTES;
 use run::class_at;
 use run::factor;
 
@@ -50,7 +53,12 @@ fn share_of(floor: u32, ceiling: u32, f: u32) -> Share
 
 // The classes of a depth in counting order, taken or not, and its anchors in node order. An anchor is that of half its
 // place, moved down a bit, with the place's last bit on top.
-fn read_depth(tree: &[u8; 128], k: u32, taken: &mut [bool; 512], anchors: &mut [u16; 512])
+fn read_depth(
+    tree: &[u8; TREE_BYTES],
+    k: u32,
+    taken: &mut [bool; LIST_BLOCKS],
+    anchors: &mut [u16; LIST_BLOCKS],
+)
     requires { ⌜ (k ≤ depth) × Long (now taken) (now anchors) ⌝ }
     ensures { λ _. ⌜ Reads k (now (tree .entry)) (now (taken .exit)) (now (anchors .exit)) ⌝ }
 {
@@ -66,9 +74,9 @@ fn read_depth(tree: &[u8; 128], k: u32, taken: &mut [bool; 512], anchors: &mut [
 }
 
 // How many classes are free from each one on, up to the last of the depth; none where it is taken.
-fn measure(taken: &[bool; 512], k: u32, room: &mut [u16; 512])
-    requires { ⌜ (k ≤ depth) × (length (now room) ≡ 512) ⌝ }
-    ensures { λ _. ⌜ Measures k (now (taken .entry)) (now (room .exit)) ⌝ }
+fn measure(taken: &[bool; LIST_BLOCKS], k: u32, room: &mut [u16; LIST_BLOCKS])
+    requires { ⌜ (k ≤ depth) × (length (now room) ≡ listBlocks) ⌝ }
+    ensures { λ _. ⌜ MeasuresRoom k (now (taken .entry)) (now (room .exit)) ⌝ }
 {
     let mut c = factor(k) as usize;
     let mut free: u16 = 0;
@@ -91,7 +99,7 @@ fn wide(classes: u16) -> u32
 }
 
 // The first anchor in node order whose whole run is free; a run is passed by stretches of free classes.
-fn search(room: &[u16; 512], anchors: &[u16; 512], k: u32, floor: u32) -> Place
+fn search(room: &[u16; LIST_BLOCKS], anchors: &[u16; LIST_BLOCKS], k: u32, floor: u32) -> Place
     requires { ⌜ (k ≤ depth) × (floor ≤ 2 ^ k) × Anchors k (now anchors) × IsRoom k (now room) ⌝ }
     ensures { λ r. ⌜ Searches k floor (now (room .entry)) r ⌝ }
 {
@@ -112,20 +120,20 @@ fn search(room: &[u16; 512], anchors: &[u16; 512], k: u32, floor: u32) -> Place
 }
 
 /// The first open anchor, or none.
-pub fn place(tree: &[u8; 128], k: u32, floor: u32) -> Place
+pub fn first_open(tree: &[u8; TREE_BYTES], k: u32, floor: u32) -> Place
     requires { ⌜ (k ≤ depth) × (floor ≤ 2 ^ k) × IsTree (now tree) ⌝ }
     ensures { λ r. ⌜ Places k floor (now (tree .entry)) r ⌝ }
 {
-    let mut taken = [false; 512];
-    let mut anchors = [0u16; 512];
-    let mut room = [0u16; 512];
+    let mut taken = [false; LIST_BLOCKS];
+    let mut anchors = [0u16; LIST_BLOCKS];
+    let mut room = [0u16; LIST_BLOCKS];
     read_depth(tree, k, &mut taken, &mut anchors);
     measure(&taken, k, &mut room);
     search(&room, &anchors, k, floor)
 }
 
 /// Where an admission goes, or the number of the first check from 2 on that refuses.
-pub fn plan(tree: &[u8; 128], live: bool, slots: u32, floor: u32, ceiling: u32) -> Plan
+pub fn plan(tree: &[u8; TREE_BYTES], live: bool, slots: u32, floor: u32, ceiling: u32) -> Plan
     requires { ⌜ IsTree (now tree) ⌝ }
     ensures { λ r. ⌜ Plans live slots floor ceiling (now (tree .entry)) r ⌝ }
 {
@@ -138,7 +146,7 @@ pub fn plan(tree: &[u8; 128], live: bool, slots: u32, floor: u32, ceiling: u32) 
     let Share::Fits = share_of(floor, ceiling, factor(k as u32)) else {
         return Plan::Refused(Refusal::ShareWrong);
     };
-    let Place::At(anchor) = place(tree, k as u32, floor) else {
+    let Place::At(anchor) = first_open(tree, k as u32, floor) else {
         return Plan::Refused(Refusal::NoOpenAnchor);
     };
     Plan::At(k, anchor)

@@ -5,8 +5,13 @@ ghost use Rattle.rules.specs.Good.{Good};
 ghost use Rattle.rules.specs.Ownership.{owns as ownsBlock};
 ghost use Rattle.rules.specs.Sound.{Numbers};
 ghost use Rattle.questions.specs.Promises.{OwnerSays, AnchorSays};
+use rules::BLOCK_SLOTS;
 use rules::Connection;
+use rules::DEPTH;
 use rules::Distance;
+use rules::HANDLES;
+use rules::LAST_HANDLE;
+use rules::LIST_BLOCKS;
 use rules::Ownership;
 use rules::Refusal;
 use rules::Schedule;
@@ -30,10 +35,10 @@ pub fn owner(s: Schedule, block: u32) -> Ownership
     ensures { λ r. ⌜ OwnerSays s block r ⌝ }
 {
     // the block's leaf says idle at once
-    if tree::is_free(&s.tree.bytes, 9, block % 512) {
+    if tree::is_free(&s.tree.bytes, DEPTH, block % LIST_BLOCKS as u32) {
         return Ownership::Idle;
     }
-    for h in 0..64 {
+    for h in 0..HANDLES {
         if owns(s.connections[h], block) {
             return Ownership::Handle(h as u8);
         }
@@ -46,12 +51,12 @@ pub fn anchor(s: Schedule, handle: u32, block: u32) -> Distance
     requires { ⌜ Good s ⌝ }
     ensures { λ r. ⌜ AnchorSays s handle block r ⌝ }
 {
-    if 63 < handle {
+    if LAST_HANDLE < handle {
         return Distance::Refused(Refusal::HandleAbove63);
     }
     let c = s.connections[handle as usize];
     if c.live {
-        return Distance::Slots(6 * minus_mod(c.k as u32, c.anchor, block));
+        return Distance::Slots(BLOCK_SLOTS * minus_mod(c.k as u32, c.anchor, block));
     }
     Distance::Refused(Refusal::HandleNotLive)
 }

@@ -6,13 +6,19 @@ ghost use lib.ListN.{length, take, drop};
 ghost use Rattle.rules.specs.Classes.{depth};
 ghost use Rattle.rules.specs.Sound.{soundNumbers};
 ghost use Rattle.rules.specs.Bytes.{littleNumber};
-ghost use Rattle.rules.specs.Load.{handleIn, connectionIn, soundRecords};
-ghost use Rattle.rules.specs.LoadSteps.{records, FramedAt};
+ghost use Rattle.rules.specs.Form.{connectionSize};
+ghost use Rattle.rules.specs.Framing.{Framed};
+ghost use Rattle.rules.specs.Fields.{fieldIn, handleIn, connectionIn};
+ghost use Rattle.rules.specs.Load.{soundRecords};
 ghost use Rattle.tree.specs.Promises.{IsTree};
-ghost use Rattle.restore.specs.Promises.{recordAt, Reads, RunFreeSays, Restores};
+ghost use Rattle.restore.specs.Promises.{Reads, RunFreeSays, records, Restores};
+use rules::BLOCK_MICROS;
 use rules::Connection;
+use rules::HANDLES;
+use rules::LARGEST_K;
 use rules::Restored;
 use rules::Schedule;
+use rules::TREE_BYTES;
 use rules::Tree;
 use run::class_at;
 use run::factor;
@@ -29,24 +35,24 @@ fn next(bytes: &[u8], cursor: usize) -> usize
 
 // The number in `width` bytes of the record at a cursor, from its payload's byte `start` on.
 fn field(bytes: &[u8], at: usize, start: usize, width: usize) -> u32
-    requires { ⌜ (width ≤ 4) × (start + width ≤ 14) × (at + 18 ≤ length (now bytes)) ⌝ }
-    ensures { λ r. ⌜ Reads (now (bytes .entry)) at start width r ⌝ }
+    requires { ⌜ (width ≤ 4) × (start + width ≤ connectionSize) × (at + (4 + connectionSize) ≤ length (now bytes)) ⌝ }
+    ensures { λ r. ⌜ Reads (λ p. fieldIn p start width) (now (bytes .entry)) at r × (r < 256 ^ width) ⌝ }
 {
     codec::number(bytes, at + 4 + start, width)
 }
 
 // The handle of the record at a cursor.
 fn handle_at(bytes: &[u8], at: usize) -> u8
-    requires { ⌜ at + 18 ≤ length (now bytes) ⌝ }
-    ensures { λ r. ⌜ r ≡ handleIn (recordAt (now (bytes .entry)) at) ⌝ }
+    requires { ⌜ at + (4 + connectionSize) ≤ length (now bytes) ⌝ }
+    ensures { λ r. ⌜ Reads handleIn (now (bytes .entry)) at r ⌝ }
 {
     field(bytes, at, 0, 1) as u8
 }
 
 // The connection of the record at a cursor.
 fn connection_at(bytes: &[u8], at: usize) -> Connection
-    requires { ⌜ at + 18 ≤ length (now bytes) ⌝ }
-    ensures { λ r. ⌜ r ≡ connectionIn (recordAt (now (bytes .entry)) at) ⌝ }
+    requires { ⌜ at + (4 + connectionSize) ≤ length (now bytes) ⌝ }
+    ensures { λ r. ⌜ Reads connectionIn (now (bytes .entry)) at r ⌝ }
 {
     Connection {
         live: true,
@@ -63,7 +69,7 @@ fn connection_at(bytes: &[u8], at: usize) -> Connection
 fn numbers_sound(c: Connection) -> bool
     ensures { λ r. ⌜ r ≡ soundNumbers c ⌝ }
 {
-    if 9 < c.k {
+    if c.k > LARGEST_K {
         return false;
     }
     let f = factor(c.k as u32);
@@ -82,7 +88,7 @@ fn numbers_sound(c: Connection) -> bool
     if f < c.ceiling as u32 {
         return false;
     }
-    if c.length as u32 * 7500 < c.estimate {
+    if c.length as u32 * BLOCK_MICROS < c.estimate {
         return false;
     }
     true
@@ -90,14 +96,14 @@ fn numbers_sound(c: Connection) -> bool
 
 /// Check 10: each record's numbers are sound, and the handles rise.
 pub fn records_sound(bytes: &[u8], n: usize) -> bool
-    requires { ⌜ FramedAt (now bytes) n ⌝ }
-    ensures { λ r. ⌜ r ≡ soundRecords (records (now (bytes .entry)) n) ⌝ }
+    requires { ⌜ Framed (now bytes) n ⌝ }
+    ensures { λ r. ⌜ r ≡ soundRecords (records (now (bytes .entry))) ⌝ }
 {
     let mut cursor = next(bytes, 0);
     let mut least: u8 = 0;
     for i in 0..n {
         let h = handle_at(bytes, cursor);
-        if 63 < h {
+        if h >= HANDLES as u8 {
             return false;
         }
         if h < least {
@@ -113,7 +119,7 @@ pub fn records_sound(bytes: &[u8], n: usize) -> bool
 }
 
 // Every class of the run is free.
-fn run_free(tree: &[u8; 128], k: u32, anchor: u32, length: u32) -> bool
+fn run_free(tree: &[u8; TREE_BYTES], k: u32, anchor: u32, length: u32) -> bool
     requires { ⌜ (k ≤ depth) × (anchor < 2 ^ k) × (length ≤ 2 ^ k) × IsTree (now tree) ⌝ }
     ensures { λ r. ⌜ RunFreeSays k anchor length (now (tree .entry)) r ⌝ }
 {
@@ -127,10 +133,10 @@ fn run_free(tree: &[u8; 128], k: u32, anchor: u32, length: u32) -> bool
 
 /// Check 11: the connections of the records with their tree, taken one after the other on an empty tree; or two of them own one block.
 pub fn restore(bytes: &[u8], n: usize) -> Restored
-    requires { ⌜ FramedAt (now bytes) n × (soundRecords (records (now bytes) n) ≡ true) ⌝ }
-    ensures { λ r. ⌜ Restores (now (bytes .entry)) n r ⌝ }
+    requires { ⌜ Framed (now bytes) n × (soundRecords (records (now bytes)) ≡ true) ⌝ }
+    ensures { λ r. ⌜ Restores (now (bytes .entry)) r ⌝ }
 {
-    let connections = [nobody(); 64];
+    let connections = [nobody(); HANDLES];
     let empty = tree::empty();
     let tree = Tree { bytes: empty };
     let mut s = Schedule { connections, tree };

@@ -2,12 +2,10 @@
 use Prim.Native.Nat.{ℕ}
 use mathlib.Core.Path.{_≡_, refl}
 use mathlib.Core.Bool.{true}
-use lib.ListN.{set, replicate}
 use Rattle.rules.specs.declared.Connection.{Connection}
 use Rattle.rules.specs.declared.Schedule.{Schedule}
-use Rattle.rules.specs.Ownership.{handles, nobody}
 use Rattle.rules.specs.Sound.{sound}
-use Rattle.rules.specs.Good.{scheduleOf}
+use Rattle.rules.specs.Good.{fresh, withConnections, withConnection}
 use Rattle.rules.specs.Answers.{refused, tight}
 use Rattle.rules.specs.Handles.{connection}
 use Rattle.rules.specs.Admit.{admit}
@@ -18,8 +16,8 @@ pub neighbour : ℕ → Connection
 neighbour A = record { live = true; k = 3; anchor = A; length = 1; floor = 1; ceiling = 2; estimate = 5000 }
 
 pub neighbours : Schedule
-unfolding neighbour scheduleOf
-neighbours = scheduleOf (set (set (replicate handles nobody) 0 (neighbour 0)) 1 (neighbour 1))
+unfolding neighbour fresh withConnections
+neighbours = withConnection (withConnection fresh 0 (neighbour 0)) 1 (neighbour 1)
 
 -- "The new estimate is stored in all four": when it is tight, too.
 pub tight-stores : (report neighbours 0 7500 .answer ≡ tight 1) × (connection (report neighbours 0 7500 .schedule) 0 .estimate ≡ 5312)

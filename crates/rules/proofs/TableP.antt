@@ -3,12 +3,10 @@ use Prim.Native.Nat.{ℕ}
 use mathlib.Core.Path.{_≡_, refl}
 use mathlib.Core.Bool.{true}
 use mathlib.Core.List.{List, [], _∷_, _++_, map}
-use lib.ListN.{set, replicate}
 use Rattle.rules.specs.declared.Connection.{Connection}
 use Rattle.rules.specs.declared.Schedule.{Schedule}
-use Rattle.rules.specs.Ownership.{handles, nobody}
 use Rattle.rules.specs.Sound.{sound}
-use Rattle.rules.specs.Good.{scheduleOf, fresh}
+use Rattle.rules.specs.Good.{fresh, withConnections, withConnection}
 use Rattle.rules.specs.Answers.{Answer, refused, ok, shrunk, owner}
 use Rattle.rules.specs.Handles.{connection}
 use Rattle.rules.specs.Admit.{admit}
@@ -40,12 +38,10 @@ unfolding admit
 andThen s handle interval share = admit s handle interval share share .schedule
 
 -- One live connection, of handle 0.
-one : ℕ → ℕ → ℕ → ℕ → ℕ → ℕ → List Connection
-one k A L floor ceiling e = set (replicate handles nobody) 0 (record { live = true; k = k; anchor = A; length = L; floor = floor; ceiling = ceiling; estimate = e })
-
 alone : ℕ → ℕ → ℕ → ℕ → ℕ → ℕ → Schedule
-unfolding one scheduleOf
-alone k A L floor ceiling e = scheduleOf (one k A L floor ceiling e)
+unfolding fresh withConnections
+alone k A L floor ceiling e =
+    withConnection fresh 0 (record { live = true; k = k; anchor = A; length = L; floor = floor; ceiling = ceiling; estimate = e })
 
 -- The schedules that the sheet writes down: "One live connection F 4, anchor 1, L 2"; "e 5,000, L 1"; "e 5,312, L 2, floor 1"; "e 0".
 pub oneLive : Schedule

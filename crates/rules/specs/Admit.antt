@@ -4,7 +4,6 @@ use mathlib.Core.Bool.{Bool, true, false, not, _||_}
 use mathlib.Core.List.{List, [], _∷_}
 use mathlib.Core.Option.{Option, none, some, Option·getD}
 use lib.Dec.{leb, ltb, eqb}
-use lib.ListN.{set}
 use Rattle.rules.specs.declared.Connection.{Connection}
 use Rattle.rules.specs.declared.Schedule.{Schedule}
 use Rattle.rules.specs.declared.Refusal.the-variants.{HandleAbove63, HandleLive, IntervalOutside, ShareWrong, NoOpenAnchor}
@@ -14,7 +13,7 @@ use Rattle.rules.specs.Core.{isInterval}
 use Rattle.rules.specs.Ownership.{largestK, taken}
 use Rattle.rules.specs.Classes.{runFree}
 use Rattle.rules.specs.Mirror.{mirrored}
-use Rattle.rules.specs.Good.{scheduleOf}
+use Rattle.rules.specs.Good.{withConnections, withConnection}
 use Rattle.rules.specs.Refusals.{Check, check, decided}
 use Rattle.rules.specs.Answers.{Outcome, refusing, ok}
 use Rattle.rules.specs.Handles.{aboveHandles, isLive}
@@ -35,13 +34,13 @@ shareWrong floor ceiling F = eqb floor 0 || ltb ceiling floor || ltb F ceiling
 -- "An anchor A is open if every block (A + j) mod F, j below floor, is free in all its periods."
 unfoldable pub isOpen : (ℕ → Bool) → ℕ → ℕ → ℕ → Bool
 unfolding runFree
-isOpen taken k floor A = runFree taken k A floor
+isOpen blocks k floor A = runFree blocks k A floor
 
 -- "Anchors are tried in the order of their node numbers 2^k + mirrored A, and the first anchor whose whole run is free is
 -- taken": the position p of its node, from 0 on.
 unfoldable pub firstOpen : (ℕ → Bool) → ℕ → ℕ → Option ℕ
 unfolding least isOpen mirrored
-firstOpen taken k floor = least (2 ^ k) (λ p. isOpen taken k floor (mirrored k p))
+firstOpen blocks k floor = least (2 ^ k) (λ p. isOpen blocks k floor (mirrored k p))
 
 -- 6: "no open anchor"
 abbrev pub noOpenAnchor : Option ℕ → Bool
@@ -73,10 +72,10 @@ anchorFor s k floor = mirrored k (Option·getD (firstOpen (taken (s .connections
 
 -- "Answer: F, A, L."
 unfoldable pub admitDone : Schedule → ℕ → ℕ → ℕ → ℕ → Outcome
-unfolding kOf anchorFor scheduleOf
+unfolding kOf anchorFor withConnections
 admitDone s handle k floor ceiling =
     let A = anchorFor s k floor in
-    let after = scheduleOf (set (s .connections) handle (newConnection k A floor ceiling)) in
+    let after = withConnection s handle (newConnection k A floor ceiling) in
     record { answer = ok (2 ^ k) A floor; schedule = after }
 
 unfoldable pub admit : Schedule → ℕ → ℕ → ℕ → ℕ → Outcome

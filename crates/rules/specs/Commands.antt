@@ -2,7 +2,8 @@
 use Prim.Native.Nat.{ℕ}
 use mathlib.Core.Bool.{Bool, true, _&&_, cond}
 use mathlib.Core.List.{List, [], _∷_, _++_, map}
-use lib.ListN.{getD}
+use lib.Dec.{eqb}
+use lib.ListN.{length, getD}
 use Rattle.rules.specs.declared.Command.{Command}
 use Rattle.rules.specs.declared.Command.the-variants.{Admit, Drop, Report, Owner, Anchor}
 use Rattle.rules.specs.declared.Line.{Line}
@@ -41,31 +42,42 @@ unfolding fits
 allFit [] = true
 allFit (n ∷ ns) = fits n && allFit ns
 
+-- No command has more numbers.
+abbrev pub mostNumbers : ℕ
+mostNumbers = 4
+
 -- ---- and read
--- The command of a word and numbers.
-unfoldable pub named : List ℕ → List ℕ → Command
+-- A form: a word, with so many numbers.
+abbrev pub isForm : List ℕ → List ℕ → List ℕ → ℕ → Bool
+isForm word ns form count = same word form && eqb (length ns) count
+
+-- The command of a word and its numbers, a line for each form.
+unfoldable pub named : List ℕ → List ℕ → Line
 unfolding same
 named word ns =
-    let x = getD ns 0 0 in
-    let y = getD ns 1 0 in
-    cond (same word (text "admit")) (Admit x y (getD ns 2 0) (getD ns 3 0))
-    (cond (same word (text "drop")) (Drop x)
-    (cond (same word (text "report")) (Report x y)
-    (cond (same word (text "owner")) (Owner x) (Anchor x y))))
+    let n : ℕ → ℕ = λ i. getD ns i 0 in
+    cond (isForm word ns (text "admit") 4) (Says (Admit (n 0) (n 1) (n 2) (n 3)))
+    (cond (isForm word ns (text "drop") 1) (Says (Drop (n 0)))
+    (cond (isForm word ns (text "report") 2) (Says (Report (n 0) (n 1)))
+    (cond (isForm word ns (text "owner") 1) (Says (Owner (n 0)))
+    (cond (isForm word ns (text "anchor") 2) (Says (Anchor (n 0) (n 1))) Bad))))
 
 -- What is between the spaces, taken as a word and then numbers.
-unfoldable pub fieldsNamed : List (List ℕ) → List ℕ → Command
+unfoldable pub fieldsNamed : List (List ℕ) → List ℕ → Line
 unfolding named value
 fieldsNamed [] tail = named tail []
 fieldsNamed (word ∷ ps) tail = named word (map value (ps ++ (tail ∷ [])))
 
-unfoldable pub guess : List ℕ → Command
+unfoldable pub guess : List ℕ → Line
 unfolding split fieldsNamed
 guess line = fieldsNamed (split (byte " ") line .pieces) (split (byte " ") line .tail)
 
 -- A line says the command that it is when written out. "Anything else prints `bad`."
+unfoldable pub confirmed : List ℕ → Line → Line
+unfolding lineOf allFit same
+confirmed line Bad = Bad
+confirmed line (Says c) = cond (same (lineOf c) line && allFit (numbersOf c)) (Says c) Bad
+
 unfoldable pub says : List ℕ → Line
-unfolding guess lineOf allFit same
-says line =
-    let c = guess line in
-    cond (same (lineOf c) line && allFit (numbersOf c)) (Says c) Bad
+unfolding guess confirmed
+says line = confirmed line (guess line)

@@ -3,7 +3,7 @@ use Prim.Native.Nat.{ℕ}
 use mathlib.Core.Path.{_≡_}
 use mathlib.Core.Bool.{true, false}
 use mathlib.Core.List.{List}
-use lib.ListN.{length, replicate}
+use lib.ListN.{length, set, replicate}
 use Rattle.rules.specs.declared.Connection.{Connection}
 use Rattle.rules.specs.declared.Schedule.{Schedule}
 use Rattle.rules.specs.Ownership.{handles, nobody, at, taken}
@@ -35,5 +35,19 @@ scheduleOf cs =
 
 -- The fresh schedule: no handle has a connection.
 unfoldable pub fresh : Schedule
-unfolding scheduleOf
-fresh = scheduleOf (replicate handles nobody)
+unfolding treeFor
+fresh =
+    let cs = replicate handles nobody in
+    let bytes = treeFor cs in
+    record { connections = cs; tree = record { bytes = bytes } }
+
+-- A schedule with other connections: the tree follows them, and whatever else a schedule has stays.
+unfoldable pub withConnections : Schedule → List Connection → Schedule
+unfolding treeFor
+withConnections s cs =
+    let bytes = treeFor cs in
+    record { connections = cs; tree = record { bytes = bytes } }
+
+-- A schedule with another connection for one handle.
+abbrev pub withConnection : Schedule → ℕ → Connection → Schedule
+withConnection s handle c = withConnections s (set (s .connections) handle c)

@@ -19,11 +19,15 @@ pub mod Meter
 pub mod Report
 pub mod Owner
 pub mod Anchor
+pub mod Obey
 pub mod Bytes
+pub mod Records
+pub mod Form
 pub mod Image
 pub mod Save
+pub mod Framing
+pub mod Fields
 pub mod Load
-pub mod LoadSteps
 pub mod Text
 pub mod Decimal
 pub mod Split

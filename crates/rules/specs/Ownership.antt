@@ -1,5 +1,5 @@
 -- Which block belongs to which connection.
-use Prim.Native.Nat.{ℕ, _^_, _-_}
+use Prim.Native.Nat.{ℕ, suc, _^_, _-_}
 use mathlib.Core.Bool.{Bool, false, _||_, _&&_}
 use mathlib.Core.List.{List, [], _∷_}
 use lib.Dec.{ltb}
@@ -9,8 +9,11 @@ use Rattle.rules.specs.Time.{minusMod}
 use Rattle.rules.specs.Core.{Subrating}
 
 -- "A connection has a handle 0 to 63":
+abbrev pub lastHandle : ℕ
+lastHandle = 63
+
 abbrev pub handles : ℕ
-handles = 64
+handles = suc lastHandle
 
 -- "a factor F = 2^k with k from 0 to 9":
 abbrev pub largestK : ℕ

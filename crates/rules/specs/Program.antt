@@ -5,17 +5,10 @@ use mathlib.Core.List.{List, [], _∷_, _++_}
 use lib.Dec.{ltb}
 use lib.ListN.{length}
 use Rattle.rules.specs.declared.Schedule.{Schedule}
-use Rattle.rules.specs.declared.Command.{Command}
-use Rattle.rules.specs.declared.Command.the-variants.{Admit, Drop, Report, Owner, Anchor}
 use Rattle.rules.specs.declared.Line.{Line}
 use Rattle.rules.specs.declared.Line.the-variants.{Says, Bad}
 use Rattle.rules.specs.Good.{fresh}
-use Rattle.rules.specs.Answers.{Outcome}
-use Rattle.rules.specs.Admit.{admit}
-use Rattle.rules.specs.Drop.{drop}
-use Rattle.rules.specs.Report.{report}
-use Rattle.rules.specs.Owner.{ownerOf}
-use Rattle.rules.specs.Anchor.{anchor}
+use Rattle.rules.specs.Obey.{obey}
 use Rattle.rules.specs.Text.{byte, text}
 use Rattle.rules.specs.Split.{split}
 use Rattle.rules.specs.Words.{wordsOf}
@@ -29,34 +22,25 @@ mostInput = 4096
 abbrev pub mostOutput : ℕ
 mostOutput = 4 * mostInput
 
--- The call that a command makes. A question leaves the schedule as it is.
-unfoldable pub obey : Schedule → Command → Outcome
-unfolding admit drop report ownerOf anchor
-obey s (Admit handle interval floor ceiling) = admit s handle interval floor ceiling
-obey s (Drop handle) = drop s handle
-obey s (Report handle sample) = report s handle sample
-obey s (Owner block) = record { answer = ownerOf s block; schedule = s }
-obey s (Anchor handle block) = record { answer = anchor s handle block; schedule = s }
-
 -- What a line prints, and the schedule after it.
 pub record Printed : Type 0 where
   pub words : List ℕ
   pub schedule : Schedule
 
 -- "a bad line changes nothing"
-unfoldable pub heed : Schedule → Line → Printed
+unfoldable pub carriedOut : Schedule → Line → Printed
 unfolding obey wordsOf
-heed s Bad = record { words = text "bad"; schedule = s }
-heed s (Says c) =
+carriedOut s Bad = record { words = text "bad"; schedule = s }
+carriedOut s (Says c) =
     let o = obey s c in
     record { words = wordsOf (o .answer); schedule = o .schedule }
 
 -- "One line, ended by LF, is printed per input line."
 unfoldable pub printed : Schedule → List (List ℕ) → List ℕ
-unfolding heed says
+unfolding carriedOut says
 printed s [] = []
 printed s (line ∷ lines) =
-    let one = heed s (says line) in
+    let one = carriedOut s (says line) in
     one .words ++ byte "\n" ∷ printed (one .schedule) lines
 
 -- "a tail of one byte or more without LF counts as a bad line"

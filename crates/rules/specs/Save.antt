@@ -17,13 +17,13 @@ pub record Written : Type 0 where
 -- "Check 8": "buffer shorter than the image".
 unfoldable pub saveChecks : Schedule → List ℕ → List Check
 unfolding image
-saveChecks s buffer = check BufferShort (ltb (length buffer) (length (image (s .connections)))) ∷ []
+saveChecks s buffer = check BufferShort (ltb (length buffer) (length (image s))) ∷ []
 
 -- "Writes the image from the buffer's start and answers its size; the rest of the buffer is unchanged."
 unfoldable pub saveDone : Schedule → List ℕ → Written
 unfolding image
 saveDone s buffer =
-    let bytes = image (s .connections) in
+    let bytes = image s in
     record { answer = saved (length bytes); buffer = bytes ++ drop (length bytes) buffer }
 
 unfoldable pub save : Schedule → List ℕ → Written

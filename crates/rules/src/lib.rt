@@ -2,33 +2,55 @@
 
 // ---- the sheet's numbers, each with the name of its definition
 
-/// A block in slots and in µs, the guard in µs, and the list in blocks: specs/Time.
+/// A block in slots.
 pub const BLOCK_SLOTS: u32 = 6;
+
+/// A block in µs.
 pub const BLOCK_MICROS: u32 = 7500;
+
+/// The guard in µs.
 pub const GUARD_MICROS: u32 = 2500;
+
+/// The list in blocks.
 pub const LIST_BLOCKS: usize = 512;
 
-/// How many handles there are, and the largest k of a factor 2^k: specs/Ownership.
+/// Handles go from 0 to this one.
+pub const LAST_HANDLE: u32 = 63;
+
+/// How many handles there are.
 pub const HANDLES: usize = 64;
+
+/// The largest k of a factor 2^k.
 pub const LARGEST_K: u8 = 9;
 
-/// The depth of the tree: specs/Classes; and its bytes: specs/TreeBytes.
+/// The depth of the tree; a connection's k may be bounded otherwise.
 pub const DEPTH: u32 = 9;
+
+/// The tree in bytes.
 pub const TREE_BYTES: usize = 128;
 
-/// The kind of each record of an image, and the size of its payload: specs/Form.
+/// The record of the count: its kind, and the bytes of its payload.
 pub const COUNT_KIND: u32 = 1;
+
 pub const COUNT_SIZE: u32 = 2;
+
+/// The record of a connection.
 pub const CONNECTION_KIND: u32 = 2;
+
 pub const CONNECTION_SIZE: u32 = 14;
+
+/// The record of the tree.
 pub const TREE_KIND: u32 = 3;
+
 pub const TREE_SIZE: u32 = 128;
 
-/// The line of an answer has so many bytes at most: specs/Words.
+/// The most bytes of the line of an answer.
 pub const LONGEST_ANSWER: usize = 28;
 
-/// What the command program takes and prints, in bytes: specs/Program.
+/// The most bytes that the command program takes.
 pub const MOST_INPUT: usize = 4096;
+
+/// The most bytes that it prints.
 pub const MOST_OUTPUT: usize = 16384;
 
 // ---- the schedule

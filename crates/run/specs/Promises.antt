@@ -1,17 +1,24 @@
--- What the functions on runs promise.
+-- What the functions on runs promise, and the fresh schedule.
 use Prim.Native.Nat.{ℕ, _+_, _%_, _^_, _<_, _≤_}
 use mathlib.Core.Path.{_≡_}
 use mathlib.Core.Bool.{Bool}
 use mathlib.Core.List.{List}
-use Rattle.rules.specs.Time.{minusMod}
-use Rattle.rules.specs.Classes.{setRun}
+use Rattle.rules.specs.Time.{listBlocks, minusMod}
+use Rattle.rules.specs.Classes.{runFree, setRun}
 use Rattle.rules.specs.TreeBytes.{treeOf}
+use Rattle.rules.specs.declared.Schedule.{Schedule}
+use Rattle.rules.specs.Good.{Good, fresh}
 use Rattle.tree.specs.Promises.{ByTree}
+
+-- The fresh schedule, and it is good.
+pub record Starts (r : Schedule) : Type 0 where
+  pub is : r ≡ fresh
+  pub good : Good r
 
 pub record Factor (k r : ℕ) : Type 0 where
   pub is : r ≡ 2 ^ k
   pub positive : 0 < r
-  pub small : r ≤ 512
+  pub small : r ≤ listBlocks
 
 pub record ClassAt (k anchor j r : ℕ) : Type 0 where
   pub is : r ≡ (anchor + j) % 2 ^ k
@@ -20,6 +27,10 @@ pub record ClassAt (k anchor j r : ℕ) : Type 0 where
 pub record MinusMod (k a b r : ℕ) : Type 0 where
   pub is : r ≡ minusMod a b (2 ^ k)
   pub below : r < 2 ^ k
+
+-- Whether every class of the run is free.
+abbrev pub RunFreeSays : ℕ → ℕ → ℕ → List ℕ → Bool → Type 0
+RunFreeSays k A n bytes says = ByTree bytes says (λ taken. runFree taken k A n)
 
 abbrev pub SetsRun : ℕ → ℕ → ℕ → ℕ → Bool → List ℕ → List ℕ → Type 0
 SetsRun k A from to bit before after = ByTree before after (λ taken. treeOf (setRun k A from to bit taken))

@@ -1,11 +1,15 @@
-//! The run of a connection, the classes of (A + j) mod F, in the tree.
+//! The run of a connection, the classes of (A + j) mod F, in the tree; and the schedule that has none.
 ghost use mathlib.Core.Path.{_≡_};
 ghost use Prim.Native.Nat.{_+_, _<_, _≤_, _^_};
 ghost use Rattle.rules.specs.Classes.{depth};
 ghost use Rattle.rules.specs.Ownership.{nobody as noConnection};
 ghost use Rattle.tree.specs.Promises.{IsTree};
-ghost use Rattle.run.specs.Promises.{Factor, ClassAt, MinusMod, SetsRun};
+ghost use Rattle.run.specs.Promises.{Starts, Factor, ClassAt, MinusMod, RunFreeSays, SetsRun};
 use rules::Connection;
+use rules::HANDLES;
+use rules::Schedule;
+use rules::TREE_BYTES;
+use rules::Tree;
 
 /// A free slot: no run, all zeros.
 pub fn nobody() -> Connection
@@ -20,6 +24,16 @@ pub fn nobody() -> Connection
         anchor: 0,
         estimate: 0,
     }
+}
+
+/// A fresh schedule.
+pub fn fresh() -> Schedule
+    ensures { λ r. ⌜ Starts r ⌝ }
+{
+    let connections = [nobody(); HANDLES];
+    let bytes = tree::empty();
+    let tree = Tree { bytes };
+    Schedule { connections, tree }
 }
 
 /// F = 2^k.
@@ -48,8 +62,21 @@ pub fn minus_mod(k: u32, a: u32, b: u32) -> u32
     ((a & mask) + (f - (b & mask))) & mask
 }
 
+/// Whether every class of a run is free.
+pub fn run_free(tree: &[u8; TREE_BYTES], k: u32, anchor: u32, length: u32) -> bool
+    requires { ⌜ (k ≤ depth) × (anchor < 2 ^ k) × (length ≤ 2 ^ k) × IsTree (now tree) ⌝ }
+    ensures { λ r. ⌜ RunFreeSays k anchor length (now (tree .entry)) r ⌝ }
+{
+    for j in 0..length {
+        if !tree::is_free(tree, k, class_at(k, anchor, j)) {
+            return false;
+        }
+    }
+    true
+}
+
 /// Takes the classes of a run, from its block `from` to before its block `to`, or gives them back.
-pub fn set_run(tree: &mut [u8; 128], k: u32, anchor: u32, from: u32, to: u32, taken: bool)
+pub fn set_run(tree: &mut [u8; TREE_BYTES], k: u32, anchor: u32, from: u32, to: u32, taken: bool)
     requires { ⌜ (k ≤ depth) × (anchor < 2 ^ k) × (from ≤ to) × (to ≤ 2 ^ k) × IsTree (now tree) ⌝ }
     ensures { λ _. ⌜ SetsRun k anchor from to taken (now (tree .entry)) (now (tree .exit)) ⌝ }
 {

@@ -15,12 +15,12 @@ use Rattle.rules.specs.declared.Reporting.the-variants.{Kept, Grown, Shrunk, Ti
 use Rattle.rules.specs.declared.Meter.{Meter}
 use Rattle.rules.specs.declared.Plan.{Plan}
 use Rattle.rules.specs.Ownership.{nobody, taken}
-use Rattle.rules.specs.Good.{Good, scheduleOf, treeFor}
+use Rattle.rules.specs.Good.{Good, treeFor, withConnections, withConnection}
 use Rattle.rules.specs.TreeBytes.{treeOf}
 use Rattle.rules.specs.Answers.{Answer, Outcome, ok, dropped, refusing, ofAdmitted, ofDropped, ofReporting, ofReported}
 use Rattle.rules.specs.Handles.{connection, isLive}
 use Rattle.rules.specs.Admit.{newConnection, admit}
-use Rattle.rules.specs.Drop.{dropDone, drop}
+use Rattle.rules.specs.Drop.{dropDone, dropHandle}
 use Rattle.rules.specs.Meter.{moved, need, movedMeter, change, newLength}
 use Rattle.rules.specs.Report.{roomToGrow, metered, aim, reportAnswer, reportLength, reportDone, report}
 use Rattle.rules.specs.Steps.{places, refuses}
@@ -40,9 +40,9 @@ use Rattle.place.specs.Promises.{Plans}
 use Rattle.schedule.specs.Promises.{takenAfter, lengthIn, Settles, Admits, Drops, Reports}
 
 -- The connections with these bytes are their schedule, where the bytes are their tree.
-scheduled : (cs : List Connection) (bytes : List ℕ) → bytes ≡ treeFor cs → _≡_ {A = Schedule} (record { connections = cs; tree = record { bytes = bytes } }) (scheduleOf cs)
-unfolding scheduleOf
-scheduled cs bytes e = ap (λ (t : List ℕ). record { connections = cs; tree = record { bytes = t } }) e
+scheduled : (s : Schedule) (cs : List Connection) (bytes : List ℕ) → bytes ≡ treeFor cs → _≡_ {A = Schedule} (record { connections = cs; tree = record { bytes = bytes } }) (withConnections s cs)
+unfolding withConnections
+scheduled s cs bytes e = ap (λ (t : List ℕ). record { connections = cs; tree = record { bytes = t } }) e
 
 -- A good schedule's bytes are a tree.
 pub treed : (s : Schedule) → Good s → IsTree (s .tree .bytes)
@@ -69,26 +69,26 @@ module _ (s : Schedule) (good : Good s) (h i f c : ℕ) where
         let t : bytes ≡ treeFor (set (s .connections) h new) =
         r (taken (s .connections)) (good-tree s good)
         ∙ longer-tree (s .connections) h k A 0 f (inside s good h b) (dead-runs k A (connection s h) d) new (rw n (live-runs (newConnection k A f c) refl)) (omega arith) in
-        ap₂ (λ (G : ℕ) (x : Schedule). record { answer = ok G A f; schedule = x }) w (scheduled (set (s .connections) h new) bytes t)
-        ∙ ap (λ (x : Connection). record { answer = ok (2 ^ k) A f; schedule = scheduleOf (set (s .connections) h x) }) n
+        ap₂ (λ (G : ℕ) (x : Schedule). record { answer = ok G A f; schedule = x }) w (scheduled s (set (s .connections) h new) bytes t)
+        ∙ ap (λ (x : Connection). record { answer = ok (2 ^ k) A f; schedule = withConnection s h x }) n
         ∙ sym (admit-plan s h i f c b ∙ ap (carry s h f c) e)
 
 -- ---- drop
 module _ (s : Schedule) (good : Good s) (h : ℕ) where
-  pub drops : (r : Dropped) → ofDropped r ≡ drop s h → Drops s h r
+  pub drops : (r : Dropped) → ofDropped r ≡ dropHandle s h → Drops s h r
   drops r e = record { is = e; good = subst Good (sym (ap (λ (o : Outcome). o .schedule) e)) (drop-good s good h) }
 
   pub drop-made : h ≤ 63 → isLive s h ≡ true → (free : Connection) (bytes : List ℕ) → free ≡ nobody
       → SetsRun (connection s h .k) (connection s h .anchor) 0 (connection s h .length) false (s .tree .bytes) bytes
-      → _≡_ {A = Outcome} (record { answer = dropped; schedule = record { connections = set (s .connections) h free; tree = record { bytes = bytes } } }) (drop s h)
+      → _≡_ {A = Outcome} (record { answer = dropped; schedule = record { connections = set (s .connections) h free; tree = record { bytes = bytes } } }) (dropHandle s h)
   unfolding dropDone
   drop-made b q free bytes n r =
       let c = connection s h in
       let t : bytes ≡ treeFor (set (s .connections) h free) =
       r (taken (s .connections)) (good-tree s good)
       ∙ shorter-tree (s .connections) h (c .k) (c .anchor) (c .length) 0 (inside s good h b) (live-runs c q) free (rw n (dead-runs (c .k) (c .anchor) nobody refl)) (good-sound s good) (omega arith) in
-      ap (λ (x : Schedule). record { answer = dropped; schedule = x }) (scheduled (set (s .connections) h free) bytes t)
-      ∙ ap (λ (x : Connection). record { answer = dropped; schedule = scheduleOf (set (s .connections) h x) }) n
+      ap (λ (x : Schedule). record { answer = dropped; schedule = x }) (scheduled s (set (s .connections) h free) bytes t)
+      ∙ ap (λ (x : Connection). record { answer = dropped; schedule = withConnection s h x }) n
       ∙ sym (drop-ok s h b q)
 
 -- ---- report
@@ -143,5 +143,5 @@ module _ (s : Schedule) (good : Good s) (h sample : ℕ) where
         let after = set (s .connections) h (metered c (newLength (c .length) (aim c sample) (roomToGrow f c)) e) in
         let made : new ≡ metered c (newLength (c .length) (aim c sample) (roomToGrow f c)) e = ew ∙ ap₂ (metered c) (en ∙ w .0) (ap (λ (x : Meter). x .estimate) em) in
         ap₂ (λ (x : Answer) (y : Connection). record { answer = x; schedule = record { connections = set (s .connections) h y; tree = record { bytes = bytes } } }) a made
-        ∙ ap (λ (x : Schedule). record { answer = change (c .length) (aim c sample) (roomToGrow f c); schedule = x }) (scheduled after bytes (w .1))
+        ∙ ap (λ (x : Schedule). record { answer = change (c .length) (aim c sample) (roomToGrow f c); schedule = x }) (scheduled s after bytes (w .1))
         ∙ sym (report-ok s h sample b q u)

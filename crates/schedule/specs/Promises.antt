@@ -15,10 +15,10 @@ use Rattle.rules.specs.Classes.{setRun}
 use Rattle.rules.specs.TreeBytes.{treeOf}
 use Rattle.rules.specs.Answers.{ofAdmitted, ofDropped, ofReporting, ofReported}
 use Rattle.rules.specs.Admit.{admit}
-use Rattle.rules.specs.Drop.{drop}
+use Rattle.rules.specs.Drop.{dropHandle}
 use Rattle.rules.specs.Meter.{change}
 use Rattle.rules.specs.Report.{roomToGrow, report}
-use Rattle.rules.specs.Good.{Good, fresh}
+use Rattle.rules.specs.Good.{Good}
 use Rattle.tree.specs.Promises.{ByTree}
 
 -- What is taken once a report has the answer: the last blocks given back, one more taken, or as before.
@@ -43,19 +43,14 @@ pub record Settles (c : Connection) (aim : ℕ) (before after : List ℕ) (r : R
   pub tree : ByTree before after (λ taken. treeOf (takenAfter c r taken))
 
 -- ---- the calls
--- A fresh schedule.
-pub record Starts (r : Schedule) : Type 0 where
-  pub is : r ≡ fresh
-  pub good : Good r
-
--- Each other call: the whole result, by the sheet's answer and the schedule afterwards, is what the rule gives for the inputs;
+-- Each call: the whole result, by the sheet's answer and the schedule afterwards, is what the rule gives for the inputs;
 -- and the schedule is good again.
 pub record Admits (s : Schedule) (handle interval floor ceiling : ℕ) (r : Admitted) : Type 0 where
   pub is : ofAdmitted r ≡ admit s handle interval floor ceiling
   pub good : Good (r .schedule)
 
 pub record Drops (s : Schedule) (handle : ℕ) (r : Dropped) : Type 0 where
-  pub is : ofDropped r ≡ drop s handle
+  pub is : ofDropped r ≡ dropHandle s handle
   pub good : Good (r .schedule)
 
 pub record Reports (s : Schedule) (handle sample : ℕ) (r : Reported) : Type 0 where

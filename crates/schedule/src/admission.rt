@@ -1,13 +1,17 @@
 //! Admit: checks 1, 2, 4, 5, 6.
 ghost use mathlib.Core.Path.{_≡_};
 ghost use Prim.Native.Nat.{_≤_};
+ghost use Rattle.rules.specs.Time.{listBlocks};
 ghost use Rattle.rules.specs.Good.{Good};
 ghost use Rattle.rules.specs.Admit.{newConnection};
 ghost use Rattle.schedule.specs.Promises.{Admits};
 use place::plan;
 use rules::Admission;
 use rules::Admitted;
+use rules::BLOCK_MICROS;
 use rules::Connection;
+use rules::GUARD_MICROS;
+use rules::LAST_HANDLE;
 use rules::Plan;
 use rules::Refusal;
 use rules::Schedule;
@@ -16,7 +20,7 @@ use run::set_run;
 
 // L is the floor; the estimate is L × 7,500 - 2,500.
 fn new_connection(k: u8, anchor: u32, floor: u16, ceiling: u16) -> Connection
-    requires { ⌜ (1 ≤ floor) × (floor ≤ 512) ⌝ }
+    requires { ⌜ (1 ≤ floor) × (floor ≤ listBlocks) ⌝ }
     ensures { λ r. ⌜ r ≡ newConnection k anchor floor ceiling ⌝ }
 {
     Connection {
@@ -26,7 +30,7 @@ fn new_connection(k: u8, anchor: u32, floor: u16, ceiling: u16) -> Connection
         floor,
         ceiling,
         anchor,
-        estimate: floor as u32 * 7500 - 2500,
+        estimate: floor as u32 * BLOCK_MICROS - GUARD_MICROS,
     }
 }
 
@@ -36,7 +40,7 @@ pub fn admit(mut s: Schedule, handle: u32, interval: u32, floor: u32, ceiling: u
     ensures { λ r. ⌜ Admits s handle interval floor ceiling r ⌝ }
 {
     let mut answer = Admission::Refused(Refusal::HandleAbove63);
-    if handle <= 63 {
+    if handle <= LAST_HANDLE {
         let h = handle as usize;
         let old = s.connections[h];
         match plan(&s.tree.bytes, old.live, interval, floor, ceiling) {

@@ -3,6 +3,7 @@ ghost use Rattle.rules.specs.Good.{Good};
 ghost use Rattle.schedule.specs.Promises.{Drops};
 use rules::Dropped;
 use rules::Dropping;
+use rules::LAST_HANDLE;
 use rules::Refusal;
 use rules::Schedule;
 use run::nobody;
@@ -14,7 +15,7 @@ pub fn drop(mut s: Schedule, handle: u32) -> Dropped
     ensures { λ r. ⌜ Drops s handle r ⌝ }
 {
     let mut answer = Dropping::Refused(Refusal::HandleAbove63);
-    if handle <= 63 {
+    if handle <= LAST_HANDLE {
         let h = handle as usize;
         let c = s.connections[h];
         if c.live {

@@ -3,9 +3,8 @@
 mod admission;
 mod dropping;
 mod reporting;
-mod start;
 
 pub use admission::admit;
 pub use dropping::drop;
 pub use reporting::report;
-pub use start::fresh;
+pub use run::fresh;

@@ -7,16 +7,19 @@ ghost use Rattle.rules.specs.Sound.{Numbers};
 ghost use Rattle.tree.specs.Promises.{IsTree};
 ghost use Rattle.schedule.specs.Promises.{lengthIn, Settles, Reports};
 use meter::move_meter;
+use rules::BLOCK_MICROS;
 use rules::Connection;
+use rules::LAST_HANDLE;
 use rules::Refusal;
 use rules::Reported;
 use rules::Reporting;
 use rules::Schedule;
+use rules::TREE_BYTES;
 use run::class_at;
 use run::set_run;
 
 // Kept, shrunk, grown or tight for the length aimed at; the tree follows.
-fn settle(tree: &mut [u8; 128], c: Connection, aim: u16) -> Reporting
+fn settle(tree: &mut [u8; TREE_BYTES], c: Connection, aim: u16) -> Reporting
     requires { ⌜ Numbers c × (aim ≤ c .ceiling) × IsTree (now tree) ⌝ }
     ensures { λ r. ⌜ Settles c aim (now (tree .entry)) (now (tree .exit)) r ⌝ }
 {
@@ -68,12 +71,12 @@ pub fn report(mut s: Schedule, handle: u32, sample: u32) -> Reported
     ensures { λ r. ⌜ Reports s handle sample r ⌝ }
 {
     let mut answer = Reporting::Refused(Refusal::HandleAbove63);
-    if handle <= 63 {
+    if handle <= LAST_HANDLE {
         let h = handle as usize;
         let c = s.connections[h];
         if !c.live {
             answer = Reporting::Refused(Refusal::HandleNotLive);
-        } else if c.length as u32 * 7500 < sample {
+        } else if c.length as u32 * BLOCK_MICROS < sample {
             answer = Reporting::Refused(Refusal::SampleAboveRun);
         } else {
             let m = move_meter(c.estimate, c.length, sample, c.floor, c.ceiling);

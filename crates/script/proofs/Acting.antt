@@ -1,5 +1,5 @@
 -- A line performed, by what it asks for.
-use mathlib.Core.Path.{_≡_, refl, sym, ap, subst, _∙_}
+use mathlib.Core.Path.{_≡_, refl, sym, ap, _∙_}
 use mathlib.Core.List.{List, _++_}
 use Prim.Native.Nat.{ℕ, _≤_}
 use native.Mathlib.Omega.{arith}
@@ -11,25 +11,17 @@ use Rattle.rules.specs.Good.{Good}
 use Rattle.rules.specs.Answers.{Outcome, ofReply, ofLoading}
 use Rattle.rules.specs.Text.{text}
 use Rattle.rules.specs.Words.{wordsOf}
-use Rattle.rules.specs.Program.{heed}
+use Rattle.rules.specs.Program.{carriedOut}
 use Rattle.text.specs.Promises.{Puts, PutsWithin}
 use Rattle.text.proofs.Putting.{puts-after}
-use Rattle.line.specs.Promises.{PutsAnswer}
-use Rattle.schedule.specs.Promises.{Starts}
+use Rattle.line.specs.Promises.{PutsWords, PutsAnswer}
+use Rattle.run.specs.Promises.{Starts}
 use Rattle.image.specs.Promises.{Loads}
 use Rattle.command.specs.Promises.{Obeys}
-use Rattle.script.specs.declared.Order.{Order as Ordered}
-use Rattle.script.specs.Orders.{Order, command, fresh as freshOrder, save, state, bad, saveInto, load as loadOrder, asks}
+use Rattle.order.specs.Orders.{Order, command, fresh as freshOrder, save, state, bad, saveInto, load as loadOrder, asks}
 use Rattle.script.specs.Performing.{mostPrinted, newline, imageLine, savedLine, performed}
-use Rattle.script.specs.Promises.{ofOrder, Within, Asks, PutsWords, PutsState, Performs}
+use Rattle.script.specs.Promises.{PutsState, Performs}
 use Rattle.script.proofs.Printing.{puts-as}
-
--- What a line asks for, by the case that was answered.
-pub asked : {line buffer : List ℕ} {r v : Ordered} → Asks line buffer r → r ≡ v → asks line ≡ ofOrder buffer v
-asked {line} {buffer} a e = sym (a .is) ∙ ap (ofOrder buffer) e
-
-pub inside : {line buffer : List ℕ} {r v : Ordered} → Asks line buffer r → r ≡ v → Within buffer v
-inside {line} {buffer} a e = subst (Within buffer) e (a .within)
 
 module _ {s : Schedule} {line entry exit : List ℕ} {n : ℕ} where
   acted : {o : Order} {after : Schedule} → asks line ≡ o → Puts entry 0 (performed s o .words) exit n → n ≤ mostPrinted → after ≡ performed s o .schedule → Good after
@@ -44,7 +36,7 @@ module _ {s : Schedule} {line entry exit : List ℕ} {n : ℕ} where
 
   pub acts-command : (c : Command) (r : Obeyed) → asks line ≡ command c → Obeys s c r → PutsAnswer entry 0 (ofReply (r .reply)) exit n
       → Performs s line entry exit (record { schedule = r .schedule; count = n })
-  unfolding performed heed
+  unfolding performed carriedOut
   acts-command c r e o p =
       acted e (puts-as (ap (λ (x : Outcome). wordsOf (x .answer) ++ newline) (o .is)) (p .line)) (omega (arith, p .room)) (ap (λ (x : Outcome). x .schedule) (o .is)) (o .good)
 
@@ -72,7 +64,7 @@ module _ {s : Schedule} {line entry exit : List ℕ} {n : ℕ} where
   acts-bad e good p = acted e p (omega (arith, p .ends)) refl good
 
   pub acts-load : {between : List ℕ} {i : ℕ} (bytes : List ℕ) (r : Loaded) → asks line ≡ loadOrder bytes → Loads s bytes r
-      → PutsWords (ofLoading (r .answer)) entry between i → Puts between i newline exit n
+      → PutsWords entry 0 (ofLoading (r .answer)) between i → Puts between i newline exit n
       → Performs s line entry exit (record { schedule = r .schedule; count = n })
   unfolding performed
   acts-load bytes r e l p q =

@@ -1,8 +1,4 @@
--- Hexadecimal, the orders of a script, and what each prints.
-pub mod HexLaws
-pub mod HexReading
-pub mod OrderLaws
-pub mod Asked
+-- What each order prints, and what it leaves.
 pub mod Printing
 pub mod Saved
 pub mod Acting

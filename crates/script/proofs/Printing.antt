@@ -10,15 +10,13 @@ use lib.ListN.{length, getD, take, drop, set, replicate, length-append, length-d
 use lib.Seq.{take-suc, length-take-le, drop-cons, drop-length, set-at, append-snoc}
 use Rattle.rules.specs.declared.Connection.{Connection}
 use Rattle.rules.specs.Ownership.{nobody, at}
-use Rattle.rules.specs.Answers.{Answer}
 use Rattle.rules.specs.Decimal.{decimal}
 use Rattle.rules.specs.Text.{text}
-use Rattle.rules.specs.Words.{spaced, wordsOf}
+use Rattle.rules.specs.Words.{spaced}
 use Rattle.text.specs.Promises.{Puts, PutsWithin}
 use Rattle.text.proofs.Putting.{puts-after, spaced-append}
-use Rattle.script.specs.Hex.{hex}
+use Rattle.hex.specs.Hex.{hex}
 use Rattle.script.specs.Performing.{newline, connectionLine, stateLines, bufferWords}
-use Rattle.script.specs.Promises.{PutsWords}
 
 -- The line of a connection: its run, then its share.
 pub connection-line : {l b z : List ℕ} {start i n : ℕ} (h : ℕ) (c : Connection) → Puts l start (decimal h ++ spaced (c .k ∷ c .anchor ∷ c .length ∷ [])) b i
@@ -31,11 +29,6 @@ connection-line {l} {z = z} {start} {n = n} h c p q =
     (sym (append-assoc (decimal h ++ spaced run) (spaced share) newline)
     ∙ ap (λ (x : List ℕ). x ++ newline) (append-assoc (decimal h) (spaced run) (spaced share) ∙ ap (λ (x : List ℕ). decimal h ++ x) (sym (spaced-append run share))))
     (puts-after p q)
-
--- Equal answers have the same words, which fit where fewer do.
-pub words-as : {most : ℕ} {entry exit : List ℕ} {next : ℕ} {a b : Answer} → most ≤ 27 → a ≡ b → PutsWithin most entry 0 (wordsOf a) exit next → PutsWords b entry exit next
-words-as {entry = entry} {exit} {next} m e p =
-    subst (λ (x : Answer). PutsWords x entry exit next) e (record { puts = p .puts; room = omega (arith, p .room) })
 
 -- A buffer, and a space before it.
 pub buffer-words : (bytes : List ℕ) → 0 < length bytes → text " " ++ hex bytes ≡ bufferWords bytes

@@ -22,10 +22,10 @@ use Rattle.images.proofs.ImageLaws.{image-bounds}
 use Rattle.image.specs.Promises.{Saves}
 use Rattle.text.specs.Promises.{Puts}
 use Rattle.text.proofs.Putting.{puts-after}
-use Rattle.script.specs.Hex.{hex}
+use Rattle.hex.specs.Hex.{hex}
 use Rattle.script.specs.Performing.{imageLine, savedLine, blank, bufferWords, newline}
-use Rattle.script.specs.Promises.{SizeFits}
-use Rattle.script.proofs.HexLaws.{hex-length}
+use Rattle.line.specs.Promises.{SizeFits}
+use Rattle.hex.proofs.HexLaws.{hex-length}
 use Rattle.script.proofs.Printing.{puts-as}
 
 -- The image is the first n bytes.

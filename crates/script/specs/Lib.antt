@@ -1,5 +1,3 @@
--- The script language of the probe, in the order to read it.
-pub mod Hex
-pub mod Orders
+-- What a line of a script prints and leaves.
 pub mod Performing
 pub mod Promises

@@ -13,9 +13,9 @@ use Rattle.rules.specs.Good.{fresh}
 use Rattle.rules.specs.Image.{image}
 use Rattle.rules.specs.Save.{save}
 use Rattle.rules.specs.Load.{load}
-use Rattle.rules.specs.Program.{Printed, heed}
-use Rattle.script.specs.Hex.{hex}
-use Rattle.script.specs.Orders.{Order, command, fresh as freshOrder, save as saveOrder, state, bad, saveInto, load as loadOrder}
+use Rattle.rules.specs.Program.{Printed, carriedOut}
+use Rattle.hex.specs.Hex.{hex}
+use Rattle.order.specs.Orders.{Order, command, fresh as freshOrder, save as saveOrder, state, bad, saveInto, load as loadOrder}
 
 -- "the whole buffer afterwards in hexadecimal", if there is one
 abbrev pub bufferWords : List ℕ → List ℕ
@@ -61,9 +61,9 @@ mostPrinted = 8192
 
 -- All that is printed, with the end of each line; and the schedule.
 unfoldable pub performed : Schedule → Order → Printed
-unfolding heed fresh load imageLine savedLine stateLines wordsOf
+unfolding carriedOut fresh load imageLine savedLine stateLines wordsOf
 performed s (command c) =
-    let p = heed s (Says c) in
+    let p = carriedOut s (Says c) in
     record { words = p .words ++ newline; schedule = p .schedule }
 performed s freshOrder = record { words = text "ok\n"; schedule = fresh }
 performed s saveOrder = record { words = imageLine s; schedule = s }

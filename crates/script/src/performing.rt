@@ -7,28 +7,27 @@ ghost use Rattle.rules.specs.Decimal.{decimal};
 ghost use Rattle.rules.specs.Words.{spaced};
 ghost use Rattle.rules.specs.Good.{Good};
 ghost use Rattle.rules.specs.Ownership.{handles};
-ghost use Rattle.rules.specs.Answers.{ofSaving, ofLoading};
 ghost use Rattle.text.specs.Promises.{PutsWithin};
-ghost use Rattle.script.specs.Orders.{mostBuffer};
+ghost use Rattle.order.specs.Orders.{mostBuffer};
 ghost use Rattle.script.specs.Performing.{mostPrinted, newline, connectionLine, bufferWords, imageLine, savedLine};
-ghost use Rattle.script.specs.Promises.{PutsState, PutsWords, Performs, SizeFits};
-use crate::Order;
+ghost use Rattle.script.specs.Promises.{PutsState, Performs};
 use crate::Performed;
-use crate::asking::order_of;
-use crate::hexing::put_hex;
 use command::obey;
+use hex::put_hex;
 use image::load;
 use image::save;
+use line::put_loading;
 use line::put_reply;
+use line::put_saving;
+use order::Order;
+use order::order_of;
 use rules::Connection;
-use rules::Loading;
+use rules::HANDLES;
 use rules::Saving;
 use rules::Schedule;
 use schedule::fresh;
-use text::put_count;
 use text::put_decimal;
-use text::put_number;
-use text::put_refused;
+use text::put_spaced;
 use text::put_word;
 
 // Which blocks are whose: handle, k, anchor, length.
@@ -37,9 +36,9 @@ fn put_run(out: &mut [u8], at: usize, handle: u8, c: Connection) -> usize
     ensures { λ r. ⌜ PutsWithin 24 (now (out .entry)) at (decimal handle ++ spaced (c .k ∷ c .anchor ∷ c .length ∷ [])) (now (out .exit)) r ⌝ }
 {
     let a = put_decimal(out, at, handle as u32);
-    let b = put_number(out, a, c.k as u32);
-    let d = put_number(out, b, c.anchor);
-    put_number(out, d, c.length as u32)
+    let b = put_spaced(out, a, c.k as u32);
+    let d = put_spaced(out, b, c.anchor);
+    put_spaced(out, d, c.length as u32)
 }
 
 // What the length moves by: floor, ceiling, estimate.
@@ -47,9 +46,9 @@ fn put_share(out: &mut [u8], at: usize, c: Connection) -> usize
     requires { ⌜ at + 24 ≤ length (now out) ⌝ }
     ensures { λ r. ⌜ PutsWithin 24 (now (out .entry)) at (spaced (c .floor ∷ c .ceiling ∷ c .estimate ∷ []) ++ newline) (now (out .exit)) r ⌝ }
 {
-    let a = put_number(out, at, c.floor as u32);
-    let b = put_number(out, a, c.ceiling as u32);
-    let d = put_number(out, b, c.estimate);
+    let a = put_spaced(out, at, c.floor as u32);
+    let b = put_spaced(out, a, c.ceiling as u32);
+    let d = put_spaced(out, b, c.estimate);
     put_word(out, d, b"\n")
 }
 
@@ -63,12 +62,12 @@ fn put_connection(out: &mut [u8], at: usize, handle: u8, c: Connection) -> usize
 }
 
 // The lines of the live connections, handles rising.
-fn put_state(out: &mut [u8], connections: [Connection; 64]) -> usize
+fn put_state(out: &mut [u8], connections: [Connection; HANDLES]) -> usize
     requires { ⌜ (length connections ≡ handles) × (48 * handles ≤ length (now out)) ⌝ }
     ensures { λ r. ⌜ PutsState connections (now (out .entry)) (now (out .exit)) r ⌝ }
 {
     let mut next: usize = 0;
-    for h in 0..64 {
+    for h in 0..HANDLES {
         if connections[h].live {
             next = put_connection(out, next, h as u8, connections[h]);
         }
@@ -82,28 +81,6 @@ fn blank(bytes: &mut [u8])
 {
     for i in 0..bytes.len() {
         bytes[i] = 165;
-    }
-}
-
-// The words of a save's answer.
-fn put_saving(out: &mut [u8], answer: Saving) -> usize
-    requires { ⌜ SizeFits answer × (27 ≤ length (now out)) ⌝ }
-    ensures { λ r. ⌜ PutsWords (ofSaving answer) (now (out .entry)) (now (out .exit)) r ⌝ }
-{
-    match answer {
-        Saving::Size(size) => put_count(out, 0, b"saved", size as u32),
-        Saving::Refused(r) => put_refused(out, 0, r),
-    }
-}
-
-// The words of a load's answer.
-fn put_loading(out: &mut [u8], answer: Loading) -> usize
-    requires { ⌜ 27 ≤ length (now out) ⌝ }
-    ensures { λ r. ⌜ PutsWords (ofLoading answer) (now (out .entry)) (now (out .exit)) r ⌝ }
-{
-    match answer {
-        Loading::Count(n) => put_count(out, 0, b"loaded", n as u32),
-        Loading::Refused(r) => put_refused(out, 0, r),
     }
 }
 
@@ -140,7 +117,7 @@ fn put_saved(out: &mut [u8], s: Schedule, bytes: &mut [u8]) -> usize
 {
     blank(bytes);
     let answer = save(s, bytes);
-    let a = put_saving(out, answer);
+    let a = put_saving(out, 0, answer);
     let b = put_buffer(out, a, bytes);
     put_word(out, b, b"\n")
 }
@@ -176,7 +153,7 @@ pub fn perform(s: Schedule, line: &[u8], bytes: &mut [u8], out: &mut [u8]) -> Pe
             let done = load(s, &bytes[..n]);
             let answer = done.answer;
             let schedule = done.schedule;
-            let a = put_loading(out, answer);
+            let a = put_loading(out, 0, answer);
             let count = put_word(out, a, b"\n");
             Performed { schedule, count }
         }

@@ -1,7 +1,10 @@
 //! What the test programs print with.
 
 use libc::STDOUT_FILENO;
+use rules::LONGEST_ANSWER;
 use rules::Refusal;
+use rules::TREE_BYTES;
+use text::put_refused;
 
 /// Words as they are.
 pub fn word(w: &[u8]) {
@@ -21,13 +24,14 @@ pub fn end() {
 
 /// The line of a refusal.
 pub fn refused(r: Refusal) {
-    word(b"no");
-    number(text::refusal_number(r) as u64);
+    let mut out = [0u8; LONGEST_ANSWER];
+    let count = put_refused(&mut out, 0, r);
+    word(&out[..count]);
     end();
 }
 
 /// How many bits of a tree are set.
-pub fn bits(tree: &[u8; 128]) -> u64 {
+pub fn bits(tree: &[u8; TREE_BYTES]) -> u64 {
     let mut set: u64 = 0;
     for n in 0..1024 {
         if tree::is_set(tree, n) {
@@ -42,8 +46,8 @@ fn wide(byte: u8) -> u64 {
 }
 
 /// Every byte of a tree, in hexadecimal.
-pub fn bytes(tree: &[u8; 128]) {
-    for i in 0..128 {
+pub fn bytes(tree: &[u8; TREE_BYTES]) {
+    for i in 0..TREE_BYTES {
         io::print_hex(STDOUT_FILENO, wide(tree[i]), 2);
     }
 }

@@ -1,11 +1,11 @@
--- A line opens with a word: byte by byte.
+-- A line opens with a word, or is one: byte by byte.
 use mathlib.Core.Path.{_≡_, sym, ap, ap₂, _∙_}
 use mathlib.Core.Bool.{true, false}
 use mathlib.Core.List.{List}
 use Prim.Native.Nat.{ℕ, _+_, _<_, _≤_}
 use native.Mathlib.Omega.{arith}
 use lib.ListN.{length, getD, take, drop, length-take}
-use lib.Seq.{getD-take, drop-length}
+use lib.Seq.{getD-take, drop-length, take-all}
 use Rattle.rules.specs.Bytes.{same}
 use Rattle.basics.proofs.BoolLaws.{is-false}
 use Rattle.basics.proofs.BytesLaws.{same-exactly, same-turn, same-differs}
@@ -34,3 +34,12 @@ module _ (line word : List ℕ) where
   opens-end i e hl =
       let n : length (take (length word) line) ≡ length word = simp length-take (omega arith) in
       rw e (ap₂ same (ap (λ (k : ℕ). drop k (take (length word) line)) (sym n) ∙ drop-length (take (length word) line)) (drop-length word))
+
+-- ---- a line that is a word
+-- It is as long,
+pub is-shorter : (line word : List ℕ) → (length line ≡ length word → ⊥) → same line word ≡ false
+is-shorter line word f = is-false (same line word) (λ e. f (ap (λ (x : List ℕ). length x) (same-exactly line word .0 e)))
+
+-- and opens with it.
+pub is-opened : (line word : List ℕ) → length line ≡ length word → same (take (length word) line) word ≡ same line word
+is-opened line word e = ap (λ (x : List ℕ). same x word) (take-all (length word) line (omega arith))

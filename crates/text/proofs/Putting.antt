@@ -9,7 +9,7 @@ use Rattle.rules.specs.Decimal.{decimal}
 use Rattle.rules.specs.Words.{spaced}
 use Rattle.basics.proofs.StoreLaws.{put-after}
 use Rattle.texts.proofs.DecimalLaws.{decimal-one, decimal-more, decimal-length}
-use Rattle.text.specs.Promises.{Puts}
+use Rattle.text.specs.Promises.{Puts, PutsWithin}
 
 -- What is put second, from where the first ends on.
 pub puts-after : {l b c : List ℕ} {start i j : ℕ} {xs ys : List ℕ} → Puts l start xs b i → Puts b i ys c j → Puts l start (xs ++ ys) c j
@@ -75,12 +75,31 @@ spaced-append [] ms = refl
 spaced-append (n ∷ ns) ms =
     ap {B = List ℕ} (λ l. 32 ∷ l) (ap (λ (l : List ℕ). decimal n ++ l) (spaced-append ns ms) ∙ sym (append-assoc (decimal n) (spaced ns) (spaced ms)))
 
-pub puts-number : {l b c : List ℕ} {start i j : ℕ} (word ns : List ℕ) (n : ℕ) → Puts l start (word ++ spaced ns) b i → Puts b i (spaced (n ∷ [])) c j
+puts-number : {l b c : List ℕ} {start i j : ℕ} (word ns : List ℕ) (n : ℕ) → Puts l start (word ++ spaced ns) b i → Puts b i (spaced (n ∷ [])) c j
     → Puts l start (word ++ spaced (ns ++ (n ∷ []))) c j
 puts-number {l} {c = c} {start} {j = j} word ns n p q =
     subst (λ (x : List ℕ). Puts l start x c j) (append-assoc word (spaced ns) (spaced (n ∷ [])) ∙ ap (λ (x : List ℕ). word ++ x) (sym (spaced-append ns (n ∷ [])))) (puts-after p q)
 
--- Three numbers after a word.
-pub three-numbers : {l b c d e : List ℕ} {start i j k m : ℕ} (word : List ℕ) (x y z : ℕ) → Puts l start word b i → Puts b i (spaced (x ∷ [])) c j
-    → Puts c j (spaced (y ∷ [])) d k → Puts d k (spaced (z ∷ [])) e m → Puts l start (word ++ spaced (x ∷ y ∷ z ∷ [])) e m
-three-numbers word x y z p q r s = puts-number word (x ∷ y ∷ []) z (puts-number word (x ∷ []) y (puts-after p q) r) s
+-- ---- and so many bytes at most
+-- The digits of a number below 10^(k+1).
+pub within-decimal : {l b : List ℕ} {start i : ℕ} (k n : ℕ) → n < 10 ^ suc k → Puts l start (decimal n) b i → PutsWithin (suc k) l start (decimal n) b i
+within-decimal k n h p = record { puts = p; room = omega (arith, p .ends, decimal-length k n h) }
+
+module _ {l b : List ℕ} {start i : ℕ} {xs : List ℕ} where
+  -- What is put takes no more than it has;
+  pub within-all : Puts l start xs b i → PutsWithin (length xs) l start xs b i
+  within-all p = record { puts = p; room = omega (arith, p .ends) }
+
+  -- a number of k + 1 digits at most fits behind it where there is room for them and a space,
+  pub room-spaced : {most : ℕ} (k n : ℕ) → n < 10 ^ suc k → PutsWithin most l start xs b i → start + (most + (k + 2)) ≤ length l → i + length (spaced (n ∷ [])) ≤ length b
+  room-spaced k n h p r = omega (arith, p .room, r, puts-length (p .puts), number-room k n h)
+
+  -- and is put there, the first of its row
+  pub within-first : {c : List ℕ} {most j : ℕ} (k n : ℕ) → n < 10 ^ suc k → PutsWithin most l start xs b i → Puts b i (spaced (n ∷ [])) c j
+      → PutsWithin (most + (k + 2)) l start (xs ++ spaced (n ∷ [])) c j
+  within-first k n h p q = record { puts = puts-after (p .puts) q; room = omega (arith, p .room, q .ends, number-room k n h) }
+
+-- or a later one.
+pub within-spaced : {l b c : List ℕ} {start i j most : ℕ} (word ns : List ℕ) (k n : ℕ) → n < 10 ^ suc k → PutsWithin most l start (word ++ spaced ns) b i
+    → Puts b i (spaced (n ∷ [])) c j → PutsWithin (most + (k + 2)) l start (word ++ spaced (ns ++ (n ∷ []))) c j
+within-spaced word ns k n h p q = record { puts = puts-number word ns n (p .puts) q; room = omega (arith, p .room, q .ends, number-room k n h) }

@@ -1,141 +1,121 @@
--- The numbers of a command, read one after the other.
-use mathlib.Core.Path.{_≡_, refl, sym, ap, _∙_}
-use mathlib.Core.Bool.{true, cond}
+-- A row of numbers, read one after the other.
+use mathlib.Core.Path.{_≡_, refl, sym, ap, subst, _∙_}
 use mathlib.Core.List.{List, [], _∷_, _++_, append-nil, append-assoc}
-use mathlib.Core.Logic.{_≢_}
 use mathlib.Core.Option.{Option, none, some}
 use Prim.Native.Nat.{ℕ, suc, _+_, _-_, _<_, _≤_}
 use native.Mathlib.Numerals.{add-one}
 use native.Mathlib.Omega.{arith}
-use lib.ListN.{length, getD, take, drop, set, replicate, length-drop, length-set, length-append, length-replicate, take-append-drop}
-use lib.Seq.{drop-cons, drop-drop, drop-length, drop-set-lt, length-take-le, take-at, take-suc-set}
-use borrow.Author.Tests.{eq-eqb, ne-eqb}
+use lib.ListN.{length, getD, take, drop, set, length-drop, length-set, length-append, drop-of-length-le}
+use lib.Seq.{drop-cons, drop-drop, drop-set-lt, length-take-le, take-suc-set}
 use Rattle.rules.specs.Decimal.{numberIn}
 use Rattle.rules.specs.Split.{before}
-use Rattle.texts.specs.LineSteps.{withFirst, numbersIn}
+use Rattle.texts.specs.Row.{IsRow}
 use Rattle.texts.proofs.SplitLaws.{before-take, before-le}
-use Rattle.texts.proofs.CommandLaws.{numbers-only}
-use Rattle.text.specs.declared.Numbers.{Numbers}
-use Rattle.text.specs.Promises.{numbersFor}
-
--- Numbers that are read already, in front of others.
-abbrev pub ahead : List ℕ → Option (List ℕ) → Option (List ℕ)
-ahead ns none = none
-ahead ns (some ms) = some (ns ++ ms)
-
-pub ahead-nothing : (later : Option (List ℕ)) → ahead [] later ≡ later
-ahead-nothing none = refl
-ahead-nothing (some ms) = refl
-
--- One at least is left.
-left : (count i : ℕ) → i < count → count - i ≡ suc (count - (i + 1))
-left count i h = omega arith
-
-module _ (line : List ℕ) (next k : ℕ) where
-  -- A number is missing where the line ends,
-  row-ends : next ≡ length line → numbersIn (suc k) (drop next line) ≡ none
-  unfolding numbersIn
-  row-ends e = ap (numbersIn (suc k)) (ap (λ (n : ℕ). drop n line) e ∙ drop-length line)
-
-  module _ (h : next < length line) where
-    -- where no space stands,
-    row-unspaced : getD line next 0 ≢ 32 → numbersIn (suc k) (drop next line) ≡ none
-    unfolding numbersIn
-    row-unspaced ne = rw (drop-cons line next 0 h, ne-eqb (getD line next 0) 32 ne)
-
-    -- or it is what stands between this space and the next.
-    row-first : getD line next 0 ≡ 32 → (start stop : ℕ) → start ≡ suc next → stop ≡ start + length (before 32 (drop start line))
-        → numbersIn (suc k) (drop next line) ≡ withFirst (numberIn (take (stop - start) (drop start line))) (numbersIn k (drop stop line))
-    unfolding numbersIn
-    row-first e start stop p q =
-        let rest = drop (suc next) line in
-        let f : stop ≡ suc next + length (before 32 rest) = q ∙ ap (λ (j : ℕ). j + length (before 32 (drop j line))) p in
-        let n : length (before 32 rest) ≡ stop - suc next = omega (arith, f) in
-        let d : drop (length (before 32 rest)) rest ≡ drop stop line = drop-drop (length (before 32 rest)) (suc next) line ∙ ap (λ (j : ℕ). drop j line) (sym f) in
-        let b : before 32 rest ≡ take (stop - suc next) rest = before-take 32 rest ∙ ap (λ (m : ℕ). take m rest) n in
-        rw (p, drop-cons line next 0 h, eq-eqb (getD line next 0) 32 e, d) (ap (λ (x : List ℕ). withFirst (numberIn x) (numbersIn k (drop stop line))) b)
+use Rattle.texts.proofs.RowLaws.{First, row-nothing, row-longer, row-first}
+use Rattle.text.specs.declared.Row.the-variants.{Count, Wrong}
+use Rattle.text.specs.Promises.{ReadsRow}
 
 -- What is sought is found within the line.
 pub found-within : (b : ℕ) (line : List ℕ) (from : ℕ) → from ≤ length line → from + length (before b (drop from line)) ≤ length line
 found-within b line from h = omega (arith, before-le b (drop from line), length-drop from line)
 
--- One more number is read.
-ahead-first : (values : List ℕ) (i n : ℕ) → i < length values → (later : Option (List ℕ))
-    → ahead (take i values) (withFirst (some n) later) ≡ ahead (take (i + 1) (set values i n)) later
-ahead-first values i n h none = refl
-ahead-first values i n h (some ms) =
-    rw (add-one i, take-suc-set values i n h) (ap {A = List ℕ} {B = Option (List ℕ)} (λ l. some l) (sym (append-assoc (take i values) (n ∷ []) ms)))
+-- The numbers before next are read: they stand first in the slice, and what makes the row is up to the line from next on.
+pub record SoFar (line : List ℕ) (start : ℕ) (entry exit : List ℕ) (next count : ℕ) : Type 0 where
+  pub here : next ≤ length line
+  pub within : count ≤ length exit
+  pub sized : length exit ≡ length entry
+  pub rest : drop count exit ≡ drop count entry
+  pub right : (ms : List ℕ) → IsRow (drop next line) ms → IsRow (drop start line) (take count exit ++ ms)
+  pub only : (ns : List ℕ) → IsRow (drop start line) ns → (ms : List ℕ) × (ns ≡ take count exit ++ ms) × IsRow (drop next line) ms
 
--- All are read: nothing may follow.
-module _ (line values : List ℕ) (count next : ℕ) {all : Option (List ℕ)} (inv : all ≡ ahead (take count values) (numbersIn 0 (drop next line))) where
-  pub row-more : next < length line → none ≡ all
-  unfolding numbersIn
-  row-more l = sym (rw (drop-cons line next 0 l) at inv)
+pub so-far-none : (line : List ℕ) (start : ℕ) (entry : List ℕ) → start ≤ length line → SoFar line start entry entry start 0
+so-far-none line start entry h =
+    record { here = h; within = omega arith; sized = refl; rest = refl; right = λ ms r. r; only = λ ns r. (ns, refl, r) }
 
-  pub row-over : next ≡ length line → all ≡ some (take count values)
-  unfolding numbersIn
-  row-over e = (rw (e, drop-length line) at inv) ∙ ap {A = List ℕ} {B = Option (List ℕ)} (λ l. some l) (append-nil (take count values))
+same-number : {m n : ℕ} {o : Option ℕ} → o ≡ some m → some n ≡ o → m ≡ n
+same-number p q = cc
 
--- ---- the values
--- The first i are numbers, and zeros stand behind them.
-pub record Filled (i : ℕ) (values : List ℕ) : Type 0 where
-  pub sized : length values ≡ 4
-  pub zeros : drop i values ≡ replicate (4 - i) 0
+module _ (line : List ℕ) (start : ℕ) (entry exit : List ℕ) (next count : ℕ) (f : SoFar line start entry exit next count) where
+  -- All is read.
+  pub so-far-all : length line ≤ next → ReadsRow (drop start line) entry exit (Count count)
+  so-far-all h =
+      let r = f .right [] (rw (drop-of-length-le line h) row-nothing) in
+      record { within = f .within; row = rw (append-nil (take count exit)) at r; rest = f .rest }
 
-pub filled-more : (i n : ℕ) (values : List ℕ) → i < 4 → Filled i values → Filled (i + 1) (set values i n)
-filled-more i n values h f =
-    record {
-      sized = length-set values i n ∙ f .sized;
-      zeros = drop-set-lt (i + 1) values i n (omega arith) ∙ sym (drop-drop 1 i values) ∙ ap (drop 1) (f .zeros) ∙ ap (λ (k : ℕ). drop 1 (replicate k 0)) (left 4 i h);
-    }
+  module _ (h : next < length line) where
+    -- What is left is a number at least;
+    left : (ms : List ℕ) → IsRow (drop next line) ms → First (getD line next 0) (drop (next + 1) line) ms
+    left ms r = row-first (getD line next 0) (drop (next + 1) line) ms (rw (drop-cons line next 0 h, ← add-one next) at r)
 
-pub filled-all : (count : ℕ) (values : List ℕ) {all : Option (List ℕ)} → count ≤ 4 → Filled count values → all ≡ some (take count values)
-    → record { right = true; values = values } ≡ numbersFor all
-filled-all count values h f e =
-    let n : length (take count values) ≡ count = length-take-le count values (omega (arith, f .sized)) in
-    rw (e, n, ← f .zeros, take-append-drop count values)
+    -- the row is wrong if there can be none,
+    pub so-far-wrong : ((ms : List ℕ) → First (getD line next 0) (drop (next + 1) line) ms → ⊥) → ReadsRow (drop start line) entry exit Wrong
+    so-far-wrong none-left ns l r = let o = f .only ns r in none-left (o .0) (left (o .0) (o .2))
 
--- What a reader of the values asks of them: so many numbers, if they are right.
-abbrev pub ofNumbers : ℕ → Numbers → Option (List ℕ)
-ofNumbers count r = cond (r .right) (some (take count (r .values))) none
+    -- and if there is no room for it.
+    pub so-far-full : count ≡ length exit → ReadsRow (drop start line) entry exit Wrong
+    so-far-full e ns l r =
+        let o = f .only ns r in
+        let g = left (o .0) (o .2) in
+        omega (
+          arith,
+          f .sized,
+          ap (λ (x : List ℕ). length x) (o .1),
+          length-append (take count exit) (o .0),
+          length-take-le count exit (f .within),
+          ap (λ (x : List ℕ). length x) (g .is),
+        )
 
-pub record Reads (count : ℕ) (rest : List ℕ) (r : Numbers) : Type 0 where
-  pub is : ofNumbers count r ≡ numbersIn count rest
-  pub sized : length (r .values) ≡ 4
+    -- One number more: what stands between this space and the next.
+    module _ (stop : ℕ) (q : stop ≡ next + 1 + length (before 32 (drop (next + 1) line))) where
+      abbrev after : List ℕ
+      after = drop (next + 1) line
 
-pub reads : (count : ℕ) (rest : List ℕ) (r : Numbers) → count ≤ 4 → r ≡ numbersFor (numbersIn count rest) → Reads count rest r
-reads count rest r h e = rw e (by (numbersIn count rest) refl)
-  where
-    by : (o : Option (List ℕ)) → numbersIn count rest ≡ o → Reads count rest (numbersFor o)
-    by none q = record { is = sym q; sized = refl }
-    by (some ns) q =
-        let l = numbers-only count rest ns q .2 in
-        record {
-          is = ap {A = List ℕ} {B = Option (List ℕ)} (λ x. some x) (take-at ns (replicate (4 - length ns) 0) count l) ∙ sym q;
-          sized = simp (length-append, length-replicate) (omega arith);
-        }
+      digits : take (stop - (next + 1)) after ≡ before 32 after
+      digits =
+          let n : stop - (next + 1) ≡ length (before 32 after) = omega (arith, q) in
+          ap (λ (k : ℕ). take k after) n ∙ sym (before-take 32 after)
 
--- A turn of the reader: i numbers are read, and one is due at next.
-module _ (line values : List ℕ) (count next i : ℕ) (h : i < count) {all : Option (List ℕ)}
-    (inv : all ≡ ahead (take i values) (numbersIn (count - i) (drop next line))) where
-  due : {later : Option (List ℕ)} → numbersIn (suc (count - (i + 1))) (drop next line) ≡ later → all ≡ ahead (take i values) later
-  due e = inv ∙ ap (λ (k : ℕ). ahead (take i values) (numbersIn k (drop next line))) (left count i h) ∙ ap (ahead (take i values)) e
+      beyond : drop (length (before 32 after)) after ≡ drop stop line
+      beyond = drop-drop (length (before 32 after)) (next + 1) line ∙ ap (λ (k : ℕ). drop k line) (sym q)
 
-  pub turn-ends : next ≡ length line → none ≡ all
-  turn-ends e = sym (due (row-ends line next (count - (i + 1)) e))
+      -- It may be none;
+      pub so-far-no-number : none ≡ numberIn (take (stop - (next + 1)) after) → ReadsRow (drop start line) entry exit Wrong
+      so-far-no-number e =
+          so-far-wrong (λ ms g.
+          let d = g .reads in
+          let c = ap numberIn digits in
+          let z : _≡_ {A = ℕ} 0 1 = cc in
+          omega arith)
 
-  pub turn-unspaced : next < length line → getD line next 0 ≢ 32 → none ≡ all
-  turn-unspaced l ne = sym (due (row-unspaced line next (count - (i + 1)) l ne))
+      -- else it is the next.
+      module _ (n : ℕ) (space : getD line next 0 ≡ 32) (room : count < length exit) (reads : some n ≡ numberIn (take (stop - (next + 1)) after)) where
+        taken : take (count + 1) (set exit count n) ≡ take count exit ++ (n ∷ [])
+        taken = rw (add-one count) (take-suc-set exit count n room)
 
-  module _ (l : next < length line) (e : getD line next 0 ≡ 32) (stop : ℕ) (q : stop ≡ next + 1 + length (before 32 (drop (next + 1) line))) where
-    first : {m : Option ℕ} → m ≡ numberIn (take (stop - (next + 1)) (drop (next + 1) line)) → all ≡ ahead (take i values) (withFirst m (numbersIn (count - (i + 1)) (drop stop line)))
-    first {m} r =
-        due (row-first line next (count - (i + 1)) l e (next + 1) stop (add-one next) q
-        ∙ ap (λ (x : Option ℕ). withFirst x (numbersIn (count - (i + 1)) (drop stop line))) (sym r))
+        grown : (ms : List ℕ) → take (count + 1) (set exit count n) ++ ms ≡ take count exit ++ (n ∷ ms)
+        grown ms = ap (λ (l : List ℕ). l ++ ms) taken ∙ append-assoc (take count exit) (n ∷ []) ms
 
-    pub turn-wrong : none ≡ numberIn (take (stop - (next + 1)) (drop (next + 1) line)) → none ≡ all
-    turn-wrong r = sym (first r)
+        one-more : (ms : List ℕ) → IsRow (drop stop line) ms → IsRow (drop next line) (n ∷ ms)
+        one-more ms r =
+            let here : drop next line ≡ 32 ∷ after = drop-cons line next 0 h ∙ ap {B = List ℕ} (λ k. getD line next 0 ∷ drop k line) (sym (add-one next)) ∙ ap {B = List ℕ} (λ b. b ∷ after) space in
+            rw here (row-longer after n ms (sym (reads ∙ ap numberIn digits)) (rw beyond r))
 
-    pub turn-right : (n : ℕ) → i < length values → some n ≡ numberIn (take (stop - (next + 1)) (drop (next + 1) line))
-        → all ≡ ahead (take (i + 1) (set values i n)) (numbersIn (count - (i + 1)) (drop stop line))
-    turn-right n lv r = first r ∙ ahead-first values i n lv (numbersIn (count - (i + 1)) (drop stop line))
+        one-less : (ns ms : List ℕ) → ns ≡ take count exit ++ ms → First (getD line next 0) after ms
+            → (ls : List ℕ) × (ns ≡ take (count + 1) (set exit count n) ++ ls) × IsRow (drop stop line) ls
+        one-less ns ms e g =
+            let same : g .n ≡ n = same-number (g .reads) (reads ∙ ap numberIn digits) in (
+              g .later,
+              e ∙ ap (λ (l : List ℕ). take count exit ++ l) (g .is ∙ ap {B = List ℕ} (λ k. k ∷ g .later) same) ∙ sym (grown (g .later)),
+              rw beyond at (g .row),
+            )
+
+        pub so-far-more : SoFar line start entry (set exit count n) stop (count + 1)
+        so-far-more =
+            record {
+              here = omega (arith, q, found-within 32 line (next + 1) (omega arith));
+              within = omega (arith, length-set exit count n);
+              sized = length-set exit count n ∙ f .sized;
+              rest = drop-set-lt (count + 1) exit count n (omega arith) ∙ sym (drop-drop 1 count exit) ∙ ap (drop 1) (f .rest) ∙ drop-drop 1 count entry;
+              right = λ ms r. rw (grown ms) (f .right (n ∷ ms) (one-more ms r));
+              only = λ ns r. let o = f .only ns r in one-less ns (o .0) (o .1) (left (o .0) (o .2));
+            }

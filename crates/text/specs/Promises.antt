@@ -1,17 +1,23 @@
 -- What the reading and writing of a text promises.
-use Prim.Native.Nat.{ℕ, _+_, _-_, _≤_}
+use Prim.Native.Nat.{ℕ, _+_, _≤_}
 use mathlib.Core.Path.{_≡_}
-use mathlib.Core.Bool.{true, false}
-use mathlib.Core.List.{List, _++_}
-use mathlib.Core.Option.{Option, none, some}
-use lib.ListN.{length, replicate}
+use mathlib.Core.List.{List}
+use lib.ListN.{length, take, drop}
 use lib.Seq.{sets}
-use Rattle.text.specs.declared.Numbers.{Numbers}
+use Rattle.texts.specs.Row.{IsRow}
+use Rattle.text.specs.declared.Row.{Row}
+use Rattle.text.specs.declared.Row.the-variants.{Count, Wrong}
 
--- The numbers that were read, and zeros behind them; or that they are wrong, and zeros.
-abbrev pub numbersFor : Option (List ℕ) → Numbers
-numbersFor none = record { right = false; values = replicate 4 0 }
-numbersFor (some ns) = record { right = true; values = ns ++ replicate (4 - length ns) 0 }
+-- The bytes are the row of the slice's first n numbers; the rest of it is as it was.
+pub record HasRow (bytes entry exit : List ℕ) (n : ℕ) : Type 0 where
+  pub within : n ≤ length exit
+  pub row : IsRow bytes (take n exit)
+  pub rest : drop n exit ≡ drop n entry
+
+-- They are; or they are no row of so many numbers at most as the slice takes.
+abbrev pub ReadsRow : List ℕ → List ℕ → List ℕ → Row → Type 0
+ReadsRow bytes entry exit (Count n) = HasRow bytes entry exit n
+ReadsRow bytes entry exit Wrong = (ns : List ℕ) → length ns ≤ length entry → IsRow bytes ns → ⊥
 
 -- Bytes are stored from a place on, all else stays, and next is the place after them.
 pub record Puts (entry : List ℕ) (at : ℕ) (bytes exit : List ℕ) (next : ℕ) : Type 0 where

@@ -4,17 +4,18 @@ mod reading;
 mod writing;
 
 pub use reading::find;
-pub use reading::numbers_from;
+pub use reading::is_word;
 pub use reading::opens;
+pub use reading::read_row;
 pub use writing::put_count;
 pub use writing::put_decimal;
-pub use writing::put_number;
 pub use writing::put_refused;
+pub use writing::put_spaced;
 pub use writing::put_word;
 pub use writing::refusal_number;
 
-/// The numbers of a command, if they are right; every other value is 0.
-pub struct Numbers {
-    pub right: bool,
-    pub values: [u32; 4],
+/// How many numbers a row has; or the bytes are no row that the lent slice takes.
+pub enum Row {
+    Count(usize),
+    Wrong,
 }

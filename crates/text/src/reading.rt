@@ -1,14 +1,13 @@
 //! What stands in a text.
 ghost use mathlib.Core.Path.{_≡_};
-ghost use mathlib.Core.Option.{none};
 ghost use Prim.Native.Nat.{_+_, _-_, _≤_};
 ghost use lib.ListN.{length, take, drop};
 ghost use Rattle.rules.specs.Bytes.{same};
 ghost use Rattle.rules.specs.Decimal.{numberIn};
 ghost use Rattle.rules.specs.Split.{before};
-ghost use Rattle.texts.specs.LineSteps.{ofNumber, numbersIn};
-ghost use Rattle.text.specs.Promises.{numbersFor};
-use crate::Numbers;
+ghost use Rattle.texts.specs.Row.{ofNumber};
+ghost use Rattle.text.specs.Promises.{ReadsRow};
+use crate::Row;
 use rules::Number;
 
 /// The place of the next such byte, from a place on; or the end.
@@ -39,6 +38,16 @@ pub fn opens(line: &[u8], word: &[u8]) -> bool
         }
     }
     true
+}
+
+/// Whether a line is a word.
+pub fn is_word(line: &[u8], word: &[u8]) -> bool
+    ensures { λ r. ⌜ r ≡ same (now (line .entry)) (now (word .entry)) ⌝ }
+{
+    if line.len() != word.len() {
+        return false;
+    }
+    opens(line, word)
 }
 
 fn digit(byte: u8) -> u64
@@ -78,44 +87,29 @@ fn number(digits: &[u8]) -> Number
     Number::Is(value as u32)
 }
 
-fn wrong() -> Numbers
-    ensures { λ r. ⌜ r ≡ numbersFor none ⌝ }
+/// The numbers from a place on to the line's end, one space before each, into the lent slice.
+pub fn read_row(line: &[u8], at: usize, numbers: &mut [u32]) -> Row
+    requires { ⌜ at ≤ length (now line) ⌝ }
+    ensures { λ r. ⌜ ReadsRow (drop at (now (line .entry))) (now (numbers .entry)) (now (numbers .exit)) r ⌝ }
 {
-    let values = [0u32; 4];
-    Numbers {
-        right: false,
-        values,
-    }
-}
-
-/// The numbers from a place on to the line's end: one space before each, and nothing after the last.
-pub fn numbers_from(line: &[u8], at: usize, count: usize) -> Numbers
-    requires { ⌜ (at ≤ length (now line)) × (count ≤ 4) ⌝ }
-    ensures { λ r. ⌜ r ≡ numbersFor (numbersIn count (drop at (now (line .entry)))) ⌝ }
-{
-    let mut values = [0u32; 4];
     let mut next = at;
-    for i in 0..count {
-        if next == line.len() {
-            return wrong();
+    let mut count: usize = 0;
+    while next < line.len() {
+        if count == numbers.len() {
+            return Row::Wrong;
         }
         if line[next] != b' ' {
-            return wrong();
+            return Row::Wrong;
         }
         let start = next + 1;
         let end = find(line, start, b' ');
         let read = number(&line[start..end]);
         let Number::Is(n) = read else {
-            return wrong();
+            return Row::Wrong;
         };
-        values[i] = n;
+        numbers[count] = n;
+        count += 1;
         next = end;
     }
-    if next != line.len() {
-        return wrong();
-    }
-    Numbers {
-        right: true,
-        values,
-    }
+    Row::Count(count)
 }

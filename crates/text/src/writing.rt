@@ -36,7 +36,7 @@ pub fn put_decimal(out: &mut [u8], at: usize, n: u32) -> usize
 }
 
 /// A space and a number.
-pub fn put_number(out: &mut [u8], at: usize, n: u32) -> usize
+pub fn put_spaced(out: &mut [u8], at: usize, n: u32) -> usize
     requires { ⌜ at + length (spaced (n ∷ [])) ≤ length (now out) ⌝ }
     ensures { λ r. ⌜ Puts (now (out .entry)) at (spaced (n ∷ [])) (now (out .exit)) r ⌝ }
 {
@@ -50,7 +50,7 @@ pub fn put_count(out: &mut [u8], at: usize, word: &[u8], n: u32) -> usize
     ensures { λ r. ⌜ PutsWithin (length (now (word .entry)) + 11) (now (out .entry)) at (now (word .entry) ++ spaced (n ∷ [])) (now (out .exit)) r ⌝ }
 {
     let a = put_word(out, at, word);
-    put_number(out, a, n)
+    put_spaced(out, a, n)
 }
 
 /// The table's number of a refusal.

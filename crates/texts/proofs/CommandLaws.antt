@@ -1,73 +1,108 @@
 -- The laws of the command program's lines: a line and what it says.
 use mathlib.Core.Path.{_≡_, refl, sym, ap, ap₂, _∙_}
 use mathlib.Core.Bool.{Bool, true, false, _&&_, cond}
-use mathlib.Core.Logic.{_≢_, by-cases}
-use mathlib.Core.List.{List, [], _∷_, _++_, map, append-nil}
-use mathlib.Core.Option.{Option, none, some, Option·none-ne-some}
-use Prim.Native.Nat.{ℕ, zero, suc, _<_, _≤_, _^_}
-use native.Mathlib.Decide.{ℕ-discrete}
+use mathlib.Core.List.{List, [], _∷_, _++_, append-nil}
+use Prim.Native.Nat.{ℕ, _≤_}
 use native.Mathlib.Omega.{arith}
+use lib.Dec.{eqb}
 use lib.ListN.{length, getD, drop, length-append, take-append-drop}
-use lib.Seq.{drop-append-seam}
-use borrow.Author.Tests.{ltb-true, lt-ltb, ne-eqb, eq-eqb}
+use borrow.Author.Tests.{eqb-true}
 use Rattle.rules.specs.declared.Command.{Command}
 use Rattle.rules.specs.declared.Command.the-variants.{Admit, Drop, Report, Owner, Anchor}
 use Rattle.rules.specs.declared.Line.{Line}
 use Rattle.rules.specs.declared.Line.the-variants.{Says, Bad}
+use Rattle.rules.specs.Below.{tabulate}
 use Rattle.rules.specs.Text.{byte, text}
 use Rattle.rules.specs.Bytes.{same}
-use Rattle.rules.specs.Decimal.{decimal, value, fits, numberIn}
+use Rattle.rules.specs.Decimal.{decimal}
 use Rattle.rules.specs.Split.{split, before}
 use Rattle.rules.specs.Words.{spaced}
-use Rattle.rules.specs.Commands.{numbersOf, lineOf, allFit, named, fieldsNamed, guess, says}
-use Rattle.texts.specs.LineSteps.{withFirst, numbersIn}
+use Rattle.rules.specs.Commands.{wordOf, numbersOf, lineOf, allFit, mostNumbers, isForm, named, fieldsNamed, guess, confirmed, says}
+use Rattle.texts.specs.Row.{IsRow}
 use Rattle.basics.proofs.BoolLaws.{both}
 use Rattle.basics.proofs.BytesLaws.{same-exactly}
-use Rattle.texts.proofs.SplitLaws.{Without, split-piece, split-none, before-without, before-take, before-of, before-of-all}
-use Rattle.texts.proofs.DecimalLaws.{value-decimal, decimal-digits, number-digits, number-only}
+use Rattle.texts.proofs.SplitLaws.{Without, split-piece, split-none, before-without, before-take}
+use Rattle.texts.proofs.DecimalLaws.{decimal-digits}
+use Rattle.texts.proofs.RowLaws.{values-spaced, before-spaced, rest-spaced}
 
--- ---- the digits of a number
-without-each : (separator : ℕ) (bs : List ℕ) → ((i : ℕ) → i < length bs → getD bs i 0 ≢ separator) → Without separator bs
-without-each separator [] h = tt
-without-each separator (b ∷ bs) h = (h 0 (omega arith), without-each separator bs (λ i l. h (suc i) (omega arith)))
+bad≢says : {c : Command} → _≡_ {A = Line} Bad (Says c) → ⊥
+bad≢says e = let z : _≡_ {A = ℕ} 0 1 = cc in omega arith
 
--- No digit is a byte below them, as a space or LF is.
-pub decimal-without : (separator : ℕ) → separator < byte "0" → (n : ℕ) → Without separator (decimal n)
-decimal-without separator h n = without-each separator (decimal n) (λ i l e. omega (arith, decimal-digits n .each i l))
+-- ---- a command, its word and its numbers
+-- No word has a space, and no command more numbers than the most.
+pub word-spaceless : (c : Command) → Without (byte " ") (wordOf c)
+unfolding before
+word-spaceless c = rw (clean c) at (before-without (byte " ") (wordOf c))
+  where
+    clean : (c : Command) → before (byte " ") (wordOf c) ≡ wordOf c
+    clean (Admit handle interval floor ceiling) = refl
+    clean (Drop handle) = refl
+    clean (Report handle sample) = refl
+    clean (Owner block) = refl
+    clean (Anchor handle block) = refl
 
-spaceless : (n : ℕ) → Without (byte " ") (decimal n)
-spaceless = decimal-without (byte " ") (omega arith)
+pub numbers-most : (c : Command) → length (numbersOf c) ≤ mostNumbers
+numbers-most (Admit handle interval floor ceiling) = omega arith
+numbers-most (Drop handle) = omega arith
+numbers-most (Report handle sample) = omega arith
+numbers-most (Owner block) = omega arith
+numbers-most (Anchor handle block) = omega arith
+
+-- They name the command,
+pub named-own : (c : Command) → named (wordOf c) (numbersOf c) ≡ Says c
+unfolding named same
+named-own (Admit handle interval floor ceiling) = refl
+named-own (Drop handle) = refl
+named-own (Report handle sample) = refl
+named-own (Owner block) = refl
+named-own (Anchor handle block) = refl
+
+listed : (ns : List ℕ) → tabulate (length ns) (λ i. getD ns i 0) ≡ ns
+unfolding tabulate
+listed [] = refl
+listed (n ∷ ns) = ap {B = List ℕ} (λ l. n ∷ l) (listed ns)
+
+-- and no others do: a form gives the command that has it, or it is another form's.
+module _ (word ns : List ℕ) (d : Command) where
+  abbrev Own : Type 0
+  Own = (word ≡ wordOf d) × (ns ≡ numbersOf d)
+
+  by-form : (form : List ℕ) (count : ℕ) (c : Command) (later : Line) → wordOf c ≡ form → numbersOf c ≡ tabulate count (λ i. getD ns i 0)
+      → cond (isForm word ns form count) (Says c) later ≡ Says d → (later ≡ Says d → Own) → Own
+  by-form form count c later w n e other = go (isForm word ns form count) refl e
+    where
+      go : (b : Bool) → isForm word ns form count ≡ b → cond b (Says c) later ≡ Says d → Own
+      go true q e =
+          let own : c ≡ d = cc in
+          let f = both (same word form) (eqb (length ns) count) q in
+          let k : length ns ≡ count = eqb-true (length ns) count (f .1) in
+          (same-exactly word form .0 (f .0) ∙ sym w ∙ ap wordOf own, sym (rw k at (listed ns)) ∙ sym n ∙ ap numbersOf own)
+      go false q e = other e
+
+  pub named-only : named word ns ≡ Says d → Own
+  unfolding named tabulate
+  named-only e =
+      by-form (text "admit") 4 _ _ refl refl e λ e.
+      by-form (text "drop") 1 _ _ refl refl e λ e.
+      by-form (text "report") 2 _ _ refl refl e λ e.
+      by-form (text "owner") 1 _ _ refl refl e λ e.
+      by-form (text "anchor") 2 _ _ refl refl e λ e. absurd (bad≢says e)
 
 -- ---- a line, and the command that is guessed
--- What is between the spaces are the digits of each number.
-values-spaced : (n : ℕ) (ns : List ℕ)
-    → map value (split (byte " ") (decimal n ++ spaced ns) .pieces ++ (split (byte " ") (decimal n ++ spaced ns) .tail ∷ [])) ≡ n ∷ ns
-unfolding spaced
-values-spaced n [] =
-    rw (append-nil (decimal n), split-none (byte " ") (decimal n) (spaceless n), value-decimal n)
-values-spaced n (m ∷ ns) =
-    rw (split-piece (byte " ") (decimal n) (decimal m ++ spaced ns) (spaceless n), value-decimal n)
-    (ap {B = List ℕ} (λ l. n ∷ l) (values-spaced m ns))
-
--- A word with no space, then its numbers, at least one.
-guess-spaced : (word : List ℕ) (n : ℕ) (ns : List ℕ) → before (byte " ") word ≡ word → guess (word ++ spaced (n ∷ ns)) ≡ named word (n ∷ ns)
+-- A word with no space, then its numbers.
+guess-spaced : (word ns : List ℕ) → Without (byte " ") word → guess (word ++ spaced ns) ≡ named word ns
 unfolding spaced guess fieldsNamed
-guess-spaced word n ns e =
-    let h : Without (byte " ") word = rw e at (before-without (byte " ") word) in
-    rw (split-piece (byte " ") word (decimal n ++ spaced ns) h) (ap (named word) (values-spaced n ns))
+guess-spaced word [] h = rw (append-nil word, split-none (byte " ") word h)
+guess-spaced word (n ∷ ns) h = rw (split-piece (byte " ") word (decimal n ++ spaced ns) h) (ap (named word) (values-spaced n ns))
 
 -- A command is guessed from its line.
-pub guess-line : (c : Command) → guess (lineOf c) ≡ c
-unfolding lineOf named same before
-guess-line (Admit handle interval floor ceiling) = guess-spaced (text "admit") handle (interval ∷ floor ∷ ceiling ∷ []) refl
-guess-line (Drop handle) = guess-spaced (text "drop") handle [] refl
-guess-line (Report handle sample) = guess-spaced (text "report") handle (sample ∷ []) refl
-guess-line (Owner block) = guess-spaced (text "owner") block [] refl
-guess-line (Anchor handle block) = guess-spaced (text "anchor") handle (block ∷ []) refl
+pub guess-line : (c : Command) → guess (lineOf c) ≡ Says c
+unfolding lineOf
+guess-line c = guess-spaced (wordOf c) (numbersOf c) (word-spaceless c) ∙ named-own c
 
 -- Two commands are never the same line.
 pub line-unique : (c d : Command) → lineOf c ≡ lineOf d → c ≡ d
-line-unique c d e = sym (guess-line c) ∙ ap guess e ∙ guess-line d
+line-unique c d e = let same : Says c ≡ Says d = sym (guess-line c) ∙ ap guess e ∙ guess-line d in cc
 
 -- The shortest line of a command is that of a drop.
 pub line-length : (c : Command) → 6 ≤ length (lineOf c)
@@ -81,23 +116,23 @@ line-length (Anchor handle block) = omega arith
 -- ---- a line, and what it says
 -- A line is read as a command exactly if it is that command written out, with numbers that fit;
 pub says-line : (c : Command) → allFit (numbersOf c) ≡ true → says (lineOf c) ≡ Says c
-unfolding says
+unfolding says confirmed
 says-line c h = rw (guess-line c, same-exactly (lineOf c) (lineOf c) .1 refl, h)
 
-bad≢says : {c : Command} → _≡_ {A = Line} Bad (Says c) → ⊥
-bad≢says e = let z : _≡_ {A = ℕ} 0 1 = cc in omega arith
-
 pub says-only : (line : List ℕ) (c : Command) → says line ≡ Says c → (line ≡ lineOf c) × (allFit (numbersOf c) ≡ true)
-unfolding says
-says-only line c e = go (same (lineOf (guess line)) line && allFit (numbersOf (guess line))) refl e
+unfolding says confirmed
+says-only line c e = by (guess line) e
   where
-    go : (t : Bool) → same (lineOf (guess line)) line && allFit (numbersOf (guess line)) ≡ t → cond t (Says (guess line)) Bad ≡ Says c
-        → (line ≡ lineOf c) × (allFit (numbersOf c) ≡ true)
-    go true q e =
-        let g : guess line ≡ c = cc in
-        let h = rw g at (both (same (lineOf (guess line)) line) (allFit (numbersOf (guess line))) q) in
+    go : (d : Command) (t : Bool) → same (lineOf d) line && allFit (numbersOf d) ≡ t → cond t (Says d) Bad ≡ Says c → (line ≡ lineOf c) × (allFit (numbersOf c) ≡ true)
+    go d true q e =
+        let own : d ≡ c = cc in
+        let h = rw own at (both (same (lineOf d) line) (allFit (numbersOf d)) q) in
         (sym (same-exactly (lineOf c) line .0 (h .0)), h .1)
-    go false q e = absurd (bad≢says e)
+    go d false q e = absurd (bad≢says e)
+
+    by : (l : Line) → confirmed line l ≡ Says c → (line ≡ lineOf c) × (allFit (numbersOf c) ≡ true)
+    by Bad e = absurd (bad≢says e)
+    by (Says d) e = go d (same (lineOf d) line && allFit (numbersOf d)) refl e
 
 -- and every other line is bad.
 pub says-bad : (line : List ℕ) → ((c : Command) → allFit (numbersOf c) ≡ true → line ≡ lineOf c → ⊥) → says line ≡ Bad
@@ -112,53 +147,35 @@ says-bad line h = go (says line) refl
 pub bad-only : (line : List ℕ) → says line ≡ Bad → (c : Command) → allFit (numbersOf c) ≡ true → line ≡ lineOf c → ⊥
 bad-only line e c h q = bad≢says (sym e ∙ ap says q ∙ says-line c h)
 
--- ---- the numbers of a line, read one after the other
--- The digits of a number stand before the next space.
-before-spaced : (n : ℕ) (ns : List ℕ) → before (byte " ") (decimal n ++ spaced ns) ≡ decimal n
-unfolding spaced
-before-spaced n [] = rw (append-nil (decimal n)) (before-of-all (byte " ") (decimal n) (spaceless n))
-before-spaced n (m ∷ ns) = before-of (byte " ") (decimal n) (decimal m ++ spaced ns) (spaceless n)
+-- ---- a line, read as a word and a row
+abbrev wordIn : List ℕ → List ℕ
+wordIn line = before (byte " ") line
 
--- Numbers that fit are read back,
-pub numbers-spaced : (ns : List ℕ) → allFit ns ≡ true → numbersIn (length ns) (spaced ns) ≡ some ns
-unfolding numbersIn spaced allFit fits
-numbers-spaced [] h = refl
-numbers-spaced (n ∷ ns) h =
-    let g = both (fits n) (allFit ns) h in
-    let l : n < 2 ^ 32 = ltb-true n (2 ^ 32) (g .0) in
-    rw (before-spaced n ns, number-digits n l, drop-append-seam (decimal n) (spaced ns), numbers-spaced ns (g .1))
+abbrev rowIn : List ℕ → List ℕ
+rowIn line = drop (length (wordIn line)) line
 
--- and nothing else is.
-pub numbers-only : (k : ℕ) (bs ns : List ℕ) → numbersIn k bs ≡ some ns → (bs ≡ spaced ns) × (allFit ns ≡ true) × (length ns ≡ k)
-unfolding numbersIn spaced allFit
-numbers-only zero [] ns e =
-    let q : ns ≡ [] = cc in
-    rw q (refl, refl, refl)
-numbers-only zero (b ∷ bs) ns e = absurd (Option·none-ne-some ns e)
-numbers-only (suc k) [] ns e = absurd (Option·none-ne-some ns e)
-numbers-only (suc k) (b ∷ bs) ns e =
-    by-cases (ℕ-discrete b (byte " "))
-    (λ q. go (numberIn digits) (numbersIn k rest) refl refl (numbers-only k rest) q (rw (eq-eqb b (byte " ") q) at e))
-    (λ q. absurd (Option·none-ne-some ns (rw (ne-eqb b (byte " ") q) at e)))
+-- The word and the numbers of the row name what the line says;
+pub says-row : (line ns : List ℕ) → IsRow (rowIn line) ns → says line ≡ named (wordIn line) ns
+unfolding says confirmed lineOf
+says-row line ns r = go (named (wordIn line) ns) refl
   where
-    digits : List ℕ
-    digits = before (byte " ") bs
+    whole : line ≡ wordIn line ++ spaced ns
+    whole = sym (rw (← before-take (byte " ") line) at (take-append-drop (length (wordIn line)) line)) ∙ ap (λ (l : List ℕ). wordIn line ++ l) (r .is)
 
-    rest : List ℕ
-    rest = drop (length digits) bs
+    guessed : guess line ≡ named (wordIn line) ns
+    guessed = ap guess whole ∙ guess-spaced (wordIn line) ns (before-without (byte " ") line)
 
-    go : (first : Option ℕ) (later : Option (List ℕ)) → numberIn digits ≡ first → numbersIn k rest ≡ later
-        → ((ms : List ℕ) → numbersIn k rest ≡ some ms → (rest ≡ spaced ms) × (allFit ms ≡ true) × (length ms ≡ k))
-        → b ≡ byte " " → withFirst first later ≡ some ns → (b ∷ bs ≡ spaced ns) × (allFit ns ≡ true) × (length ns ≡ suc k)
-    go none later f l only q e = absurd (Option·none-ne-some ns e)
-    go (some n) none f l only q e = absurd (Option·none-ne-some ns e)
-    go (some n) (some ms) f l only q e =
-        let whole : ns ≡ n ∷ ms = cc in
-        let first = number-only digits n f in
-        let later = only ms l in
-        let parted : bs ≡ digits ++ rest = sym (rw (← before-take (byte " ") bs) at (take-append-drop (length digits) bs)) in
-        rw whole (
-          ap₂ {C = List ℕ} (λ x l. x ∷ l) q (parted ∙ ap₂ {C = List ℕ} (λ x y. x ++ y) (first .0) (later .0)),
-          ap₂ _&&_ (lt-ltb n (2 ^ 32) (first .1)) (later .1),
-          ap suc (later .2),
-        )
+    go : (l : Line) → named (wordIn line) ns ≡ l → says line ≡ l
+    go Bad e = ap (confirmed line) (guessed ∙ e)
+    go (Says c) e =
+        let own = named-only (wordIn line) ns c e in
+        let q : line ≡ lineOf c = whole ∙ ap₂ {C = List ℕ} (λ x y. x ++ spaced y) (own .0) (own .1) in
+        ap says q ∙ says-line c (ap allFit (sym (own .1)) ∙ r .fit)
+
+-- without such a row it is bad.
+pub says-no-row : (line : List ℕ) → ((ns : List ℕ) → length ns ≤ mostNumbers → IsRow (rowIn line) ns → ⊥) → says line ≡ Bad
+unfolding lineOf
+says-no-row line h = says-bad line (λ c fit e. h (numbersOf c) (numbers-most c) (record { is = rest c e; fit = fit }))
+  where
+    rest : (c : Command) → line ≡ lineOf c → rowIn line ≡ spaced (numbersOf c)
+    rest c e = ap rowIn e ∙ rest-spaced (wordOf c) (numbersOf c) (word-spaceless c)

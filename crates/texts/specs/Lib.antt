@@ -1,2 +1,2 @@
 -- What reading a line finds.
-pub mod LineSteps
+pub mod Row

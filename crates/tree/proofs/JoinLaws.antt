@@ -12,7 +12,7 @@ use borrow.Author.Tests.{eqb-false, eq-eqb, ne-eqb}
 use Rattle.rules.specs.Classes.{depth, inClass, withClass, withoutClass}
 use Rattle.rules.specs.Mirror.{mirrored}
 use Rattle.rules.specs.TreeBytes.{treeOf, bitAt}
-use Rattle.blocks.specs.Joined.{Joined}
+use Rattle.blocks.specs.Children.{OrOfChildren}
 use Rattle.blocks.proofs.TreeLaws.{tree-root, tree-leaves, tree-of-leaves, tree-ext}
 use Rattle.tree.specs.Under.{under}
 use Rattle.tree.specs.Promises.{WritesBelow, Joins, MissingOver, JoinsAbove, WritesClass}
@@ -30,14 +30,14 @@ module _ (v : ℕ) {t t′ : List ℕ} {changed : Bool} (hv : 1 < v) (j : Joins 
   kept : (m : ℕ) → m ≢ v / 2 → bitAt t′ m ≡ bitAt t m
   kept m h = j .bits m ∙ rw (ne-eqb m (v / 2) h)
 
-  joined-over : Joined t′ (v / 2)
+  joined-over : OrOfChildren t′ (v / 2)
   joined-over = j .bits (v / 2) ∙ rw (eq-eqb (v / 2) (v / 2) refl, kept (2 * (v / 2)) (omega arith), kept (2 * (v / 2) + 1) (omega arith))
 
   -- so is any node whose children kept their bits
-  joined-where : MissingOver v t → (a : ℕ) → 0 < a → a < 512 → ((m : ℕ) → m / 2 ≡ a → bitAt t′ m ≡ bitAt t m) → Joined t′ a
+  joined-where : MissingOver v t → (a : ℕ) → 0 < a → a < 512 → ((m : ℕ) → m / 2 ≡ a → bitAt t′ m ≡ bitAt t m) → OrOfChildren t′ a
   joined-where g a ha hl children =
       by-cases (ℕ-discrete a (v / 2))
-      (λ q. subst (λ (x : ℕ). Joined t′ x) (sym q) joined-over)
+      (λ q. subst (λ (x : ℕ). OrOfChildren t′ x) (sym q) joined-over)
       (λ q. rw (kept a q, children (2 * a) (omega arith), children (2 * a + 1) (omega arith)) (g a ha hl (ne-eqb a (v / 2) q)))
 
   -- only the node one level higher may be missing now, and not even that one where nothing changed
@@ -46,7 +46,7 @@ module _ (v : ℕ) {t t′ : List ℕ} {changed : Bool} (hv : 1 < v) (j : Joins 
       let n : a ≢ v / 2 / 2 = eqb-false a (v / 2 / 2) h in
       joined-where g a ha hl (λ m e. kept m (omega arith))
 
-  pub join-stays : changed ≡ false → MissingOver v t → (a : ℕ) → 0 < a → a < 512 → Joined t′ a
+  pub join-stays : changed ≡ false → MissingOver v t → (a : ℕ) → 0 < a → a < 512 → OrOfChildren t′ a
   join-stays s g a ha hl =
       joined-where g a ha hl (λ m e. by-cases (ℕ-discrete m (v / 2)) (λ q. rw q (j .same s)) (kept m))
 
@@ -65,7 +65,7 @@ cond-joined false v a x y e = e
 
 -- where every inner node was joined, only the one over n may be missing now
 pub below-missing : (k n : ℕ) (v : Bool) (t c : List ℕ) → k ≤ 9 → 2 ^ k ≤ n → WritesBelow (9 - k) n v t c
-    → ((a : ℕ) → 0 < a → a < 512 → Joined t a) → MissingOver n c
+    → ((a : ℕ) → 0 < a → a < 512 → OrOfChildren t a) → MissingOver n c
 below-missing k n v t c hk hn w j a ha hl hu =
     let s : k + (9 - k) ≡ 9 = omega arith in
     let e : 2 ^ k * 2 ^ (9 - k) ≡ 512 = sym (pow-add 2 k (9 - k)) ∙ ap (λ (x : ℕ). 2 ^ x) s in

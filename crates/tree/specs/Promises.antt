@@ -4,10 +4,11 @@ use mathlib.Core.Path.{_≡_}
 use mathlib.Core.Bool.{Bool, false, cond, _||_}
 use mathlib.Core.List.{List}
 use lib.Dec.{eqb}
-use Rattle.rules.specs.Classes.{free, inClass, withClass, withoutClass}
+use Rattle.rules.specs.Time.{listBlocks}
+use Rattle.rules.specs.Classes.{depth, free, inClass, withClass, withoutClass}
 use Rattle.rules.specs.Mirror.{mirrored}
 use Rattle.rules.specs.TreeBytes.{treeOf, bitAt, Sized}
-use Rattle.blocks.specs.Joined.{Joined}
+use Rattle.blocks.specs.Children.{OrOfChildren}
 use Rattle.tree.specs.Under.{under}
 
 pub record Mirrored (k p r : ℕ) : Type 0 where
@@ -32,13 +33,13 @@ pub record Joins (n : ℕ) (before after : List ℕ) (changed : Bool) : Type 0 w
 
 -- Every inner node is the OR of its children, but perhaps for the one over n.
 abbrev pub MissingOver : ℕ → List ℕ → Type 0
-MissingOver n t = (a : ℕ) → 0 < a → a < 512 → eqb a (n / 2) ≡ false → Joined t a
+MissingOver n t = (a : ℕ) → 0 < a → a < listBlocks → eqb a (n / 2) ≡ false → OrOfChildren t a
 
 -- Now every inner node is; only nodes above n may have a new bit.
 pub record JoinsAbove (n : ℕ) (before after : List ℕ) : Type 0 where
   pub sized : Sized after
-  pub joined : (a : ℕ) → 0 < a → a < 512 → Joined after a
-  pub others : (m : ℕ) → 0 < m → under 9 m (n / 2) ≡ false → bitAt after m ≡ bitAt before m
+  pub joined : (a : ℕ) → 0 < a → a < listBlocks → OrOfChildren after a
+  pub others : (m : ℕ) → 0 < m → under depth m (n / 2) ≡ false → bitAt after m ≡ bitAt before m
   pub zeroth : bitAt after 0 ≡ bitAt before 0
 
 -- The bytes are the tree of what some test says is taken.

@@ -1,16 +1,19 @@
-//! The tree of taken blocks: 128 bytes, a bit for each node.
+//! The tree of taken blocks: a bit for each node.
 ghost use mathlib.Core.Path.{_≡_};
 ghost use Prim.Native.Nat.{_+_, _*_, _<_, _≤_, _^_};
+ghost use Rattle.rules.specs.Time.{listBlocks};
 ghost use Rattle.rules.specs.Classes.{depth, nothing};
 ghost use Rattle.rules.specs.Mirror.{mirrored};
 ghost use Rattle.rules.specs.TreeBytes.{treeOf, bitAt, Sized};
 ghost use Rattle.tree.specs.Promises.{Mirrored, Writes, WritesBelow, Joins, MissingOver, JoinsAbove, FreeSays, IsTree, WritesClass, Takes, GivesBack};
+use rules::DEPTH;
+use rules::TREE_BYTES;
 
 /// The tree of which no block is taken.
-pub fn empty() -> [u8; 128]
+pub fn empty() -> [u8; TREE_BYTES]
     ensures { λ r. ⌜ r ≡ treeOf nothing ⌝ }
 {
-    [0u8; 128]
+    [0u8; TREE_BYTES]
 }
 
 /// p with its k bits in mirrored order: ones, twos, fours and eights of 16 bits change places, and the k bits come down.
@@ -34,23 +37,23 @@ pub fn node(k: u32, r: u32) -> usize
 }
 
 /// A node's bit.
-pub fn is_set(tree: &[u8; 128], n: usize) -> bool
-    requires { ⌜ n < 1024 ⌝ }
+pub fn is_set(tree: &[u8; TREE_BYTES], n: usize) -> bool
+    requires { ⌜ n < 2 * listBlocks ⌝ }
     ensures { λ r. ⌜ r ≡ bitAt (now (tree .entry)) n ⌝ }
 {
     (tree[n >> 3] >> (n & 7)) & 1 == 1
 }
 
 /// Whether the class of r for the factor 2^k is free.
-pub fn is_free(tree: &[u8; 128], k: u32, r: u32) -> bool
+pub fn is_free(tree: &[u8; TREE_BYTES], k: u32, r: u32) -> bool
     requires { ⌜ (k ≤ depth) × (r < 2 ^ k) × IsTree (now tree) ⌝ }
     ensures { λ b. ⌜ FreeSays k r (now (tree .entry)) b ⌝ }
 {
     !is_set(tree, node(k, r))
 }
 
-fn write_node(tree: &mut [u8; 128], n: usize, taken: bool)
-    requires { ⌜ (n < 1024) × Sized (now tree) ⌝ }
+fn write_node(tree: &mut [u8; TREE_BYTES], n: usize, taken: bool)
+    requires { ⌜ (n < 2 * listBlocks) × Sized (now tree) ⌝ }
     ensures { λ _. ⌜ Writes n taken (now (tree .entry)) (now (tree .exit)) ⌝ }
 {
     let at = n >> 3;
@@ -63,8 +66,8 @@ fn write_node(tree: &mut [u8; 128], n: usize, taken: bool)
 }
 
 // Marking a node reaches every node beneath it, `left` levels down to the leaves.
-fn write_below(tree: &mut [u8; 128], n: usize, left: u32, taken: bool)
-    requires { ⌜ ((n + 1) * 2 ^ left ≤ 1024) × Sized (now tree) ⌝ }
+fn write_below(tree: &mut [u8; TREE_BYTES], n: usize, left: u32, taken: bool)
+    requires { ⌜ ((n + 1) * 2 ^ left ≤ 2 * listBlocks) × Sized (now tree) ⌝ }
     ensures { λ _. ⌜ WritesBelow left n taken (now (tree .entry)) (now (tree .exit)) ⌝ }
 {
     write_node(tree, n, taken);
@@ -75,8 +78,8 @@ fn write_below(tree: &mut [u8; 128], n: usize, left: u32, taken: bool)
 }
 
 // Node n becomes the OR of its two children, and whether that changed it.
-fn join(tree: &mut [u8; 128], n: usize) -> bool
-    requires { ⌜ (0 < n) × (n < 512) × Sized (now tree) ⌝ }
+fn join(tree: &mut [u8; TREE_BYTES], n: usize) -> bool
+    requires { ⌜ (0 < n) × (n < listBlocks) × Sized (now tree) ⌝ }
     ensures { λ r. ⌜ Joins n (now (tree .entry)) (now (tree .exit)) r ⌝ }
 {
     let either = is_set(tree, 2 * n) || is_set(tree, 2 * n + 1);
@@ -88,8 +91,8 @@ fn join(tree: &mut [u8; 128], n: usize) -> bool
 }
 
 // Each ancestor of n becomes the OR of its two children, from below; one that stays as it was leaves all above it as they were.
-fn join_above(tree: &mut [u8; 128], n: usize)
-    requires { ⌜ (0 < n) × (n < 1024) × Sized (now tree) × MissingOver n (now tree) ⌝ }
+fn join_above(tree: &mut [u8; TREE_BYTES], n: usize)
+    requires { ⌜ (0 < n) × (n < 2 * listBlocks) × Sized (now tree) × MissingOver n (now tree) ⌝ }
     ensures { λ _. ⌜ JoinsAbove n (now (tree .entry)) (now (tree .exit)) ⌝ }
 {
     let mut v = n;
@@ -102,17 +105,17 @@ fn join_above(tree: &mut [u8; 128], n: usize)
 }
 
 // The node of a class, with all nodes under it, gets one bit; then its ancestors follow.
-fn write_class(tree: &mut [u8; 128], k: u32, r: u32, taken: bool)
+fn write_class(tree: &mut [u8; TREE_BYTES], k: u32, r: u32, taken: bool)
     requires { ⌜ (k ≤ depth) × (r < 2 ^ k) × IsTree (now tree) ⌝ }
     ensures { λ _. ⌜ WritesClass k r taken (now (tree .entry)) (now (tree .exit)) ⌝ }
 {
     let n = node(k, r);
-    write_below(tree, n, 9 - k, taken);
+    write_below(tree, n, DEPTH - k, taken);
     join_above(tree, n);
 }
 
 /// Takes the class of r for the factor 2^k.
-pub fn take_class(tree: &mut [u8; 128], k: u32, r: u32)
+pub fn take_class(tree: &mut [u8; TREE_BYTES], k: u32, r: u32)
     requires { ⌜ (k ≤ depth) × (r < 2 ^ k) × IsTree (now tree) ⌝ }
     ensures { λ _. ⌜ Takes k r (now (tree .entry)) (now (tree .exit)) ⌝ }
 {
@@ -120,7 +123,7 @@ pub fn take_class(tree: &mut [u8; 128], k: u32, r: u32)
 }
 
 /// Gives the class of r for the factor 2^k back.
-pub fn give_back(tree: &mut [u8; 128], k: u32, r: u32)
+pub fn give_back(tree: &mut [u8; TREE_BYTES], k: u32, r: u32)
     requires { ⌜ (k ≤ depth) × (r < 2 ^ k) × IsTree (now tree) ⌝ }
     ensures { λ _. ⌜ GivesBack k r (now (tree .entry)) (now (tree .exit)) ⌝ }
 {

@@ -2,12 +2,13 @@
 ghost use Prim.Native.Nat.{_<_, _≤_, _^_};
 ghost use Rattle.rules.specs.Classes.{depth};
 use rules::Schedule;
+use rules::TREE_BYTES;
 use schedule::admit;
 use schedule::drop;
 use schedule::fresh;
 
 // The tree of one connection of length 1.
-fn single(k: u32, anchor: u32) -> [u8; 128]
+fn single(k: u32, anchor: u32) -> [u8; TREE_BYTES]
     requires { ⌜ (k ≤ depth) × (anchor < 2 ^ k) ⌝ }
 {
     let mut t = tree::empty();

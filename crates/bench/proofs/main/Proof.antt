@@ -1,17 +1,10 @@
 -- `bench::main` reads within its buffer, and performs what was read.
 use borrow.Author.Needs.{needs}
-use mathlib.Core.Path.{sym, subst}
-use Prim.Native.Nat.{_≤_}
 use native.Mathlib.Omega.{arith}
-use lib.ListN.{length, length-take}
-use lib.Seq.{length-take-le}
-use Rattle.input.specs.Promises.{Holds}
+use lib.ListN.{length-take}
+use Rattle.input.proofs.Reading.{held, held-part}
 use Rattle.bench.proofs.main.Statement.{statement}
 use Rattle.bench.proofs.main.Tie as tie
-
--- what was read lies within the buffer
-held : (c : tie.After-known-told) → c .before .input .given .0 .0 ≤ length (c .before .before .before .before .read-all .last .0)
-held c = subst (Holds (length (c .before .before .before .before .read-all .last .0))) (c .before .input .given .1) (c .before .before .before .before .read-all .ensures)
 
 slice-aggregate-read-all : tie.Need-slice-aggregate-read-all
 slice-aggregate-read-all c = search needs
@@ -29,10 +22,10 @@ returns : tie.Need-returns
 returns c = search needs
 
 array-share-prefix-buffer : tie.Need-array-share-prefix-buffer
-array-share-prefix-buffer c = held c
+array-share-prefix-buffer c = held (c .before .before .before .before .read-all .ensures) (c .before .input .given .1)
 
 slice-aggregate-perform-all : tie.Need-slice-aggregate-perform-all
-slice-aggregate-perform-all c = sym (length-take-le _ _ (held (c .before)))
+slice-aggregate-perform-all c = held-part (c .before .before .before .before .before .read-all .last .0) (c .before .before .before .before .before .read-all .ensures) (c .before .before .input .given .1)
 
 perform-all-requires : tie.Need-perform-all-requires
 perform-all-requires c κs = simp length-take (omega arith)

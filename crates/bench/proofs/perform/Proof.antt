@@ -5,7 +5,7 @@ use Prim.Native.Nat.{_≤_}
 use native.Mathlib.Omega.{arith}
 use lib.ListN.{length}
 use lib.Seq.{length-take-le}
-use Rattle.script.proofs.Acting.{inside}
+use Rattle.order.proofs.Asked.{inside}
 use Rattle.bench.proofs.perform.Statement.{statement}
 use Rattle.bench.proofs.perform.Tie as tie
 

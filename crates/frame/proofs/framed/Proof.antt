@@ -1,11 +1,11 @@
 -- `frame::framed` meets its contract: each exit is one reason, or the frame is whole.
 use borrow.Author.Needs.{needs}
-use mathlib.Core.Path.{_≡_, sym, _∙_, subst}
-use Prim.Native.Nat.{_+_, _*_, _≤_}
+use mathlib.Core.Path.{refl, subst}
 use native.Mathlib.Omega.{arith}
-use lib.ListN.{length}
+use Rattle.rules.specs.Form.{countKind, countSize, treeKind, treeSize}
 use Rattle.basics.proofs.BytesLaws.{AllBytes}
-use Rattle.frame.specs.Promises.{Passes, PassesAll, RecordAt, ConnectionsAt}
+use Rattle.frame.specs.declared.After.the-variants.{At}
+use Rattle.frame.specs.Promises.{Passes, PassesAll}
 use Rattle.frame.proofs.ReadLaws.{wrong-first, wrong-count, wrong-connections, wrong-last, wrong-end, right}
 use Rattle.frame.proofs.framed.Statement.{statement}
 use Rattle.frame.proofs.framed.Tie as tie
@@ -15,24 +15,21 @@ small : (c : tie.After-shared-slice-known) → AllBytes (c .before .args .bytes 
 small c i = omega (arith, c .shared-slice-known .given i)
 
 -- the count's record, the connections' and the tree's are passed
-first-is : (c : tie.After-first) → RecordAt (c .before .before .before .before .args .bytes .now) 0 1 2 × (c .first .given .0 .0 ≡ 6)
-first-is c = subst (Passes (c .before .before .before .before .args .bytes .now) 0 1 2) (c .first .given .1) (c .before .before .pass .ensures)
+first-is : (c : tie.After-first) → Passes (c .before .before .before .before .args .bytes .now) 0 countKind countSize (At (c .first .given .0 .0))
+first-is c = subst (Passes (c .before .before .before .before .args .bytes .now) 0 countKind countSize) (c .first .given .1) (c .before .before .pass .ensures)
 
 each-is : (c : tie.After-each)
-    → ConnectionsAt (c .before .before .before .before .before .before .before .before .before .before .args .bytes .now) (c .before .before .before .before .before .before .first .given .0 .0) (c .before .before .before .before .number .result)
-    × (c .each .given .0 .0 ≡ c .before .before .before .before .before .before .first .given .0 .0 + 18 * c .before .before .before .before .number .result)
-    × (c .each .given .0 .0 ≤ length (c .before .before .before .before .before .before .before .before .before .before .args .bytes .now))
+    → PassesAll (c .before .before .before .before .before .before .before .before .before .before .args .bytes .now) (c .before .before .before .before .before .before .first .given .0 .0) (c .before .before .before .before .number .result) (At (c .each .given .0 .0))
 each-is c =
     let n = c .before .before .before .before in
     let f = n .before .before in
     subst (PassesAll (f .before .before .before .before .args .bytes .now) (f .first .given .0 .0) (n .number .result)) (c .each .given .1) (c .before .before .pass-connections .ensures)
 
 last-is : (c : tie.After-last)
-    → RecordAt (c .before .before .before .before .before .before .before .before .before .before .before .before .before .before .args .bytes .now) (c .before .before .before .before .each .given .0 .0) 3 128
-    × (c .last .given .0 .0 ≡ c .before .before .before .before .each .given .0 .0 + 132)
+    → Passes (c .before .before .before .before .before .before .before .before .before .before .before .before .before .before .args .bytes .now) (c .before .before .before .before .each .given .0 .0) treeKind treeSize (At (c .last .given .0 .0))
 last-is c =
     let e = c .before .before .before .before in
-    subst (Passes (e .before .before .before .before .before .before .before .before .before .before .args .bytes .now) (e .each .given .0 .0) 3 128) (c .last .given .1) (c .before .before .pass2 .ensures)
+    subst (Passes (e .before .before .before .before .before .before .before .before .before .before .args .bytes .now) (e .each .given .0 .0) treeKind treeSize) (c .last .given .1) (c .before .before .pass2 .ensures)
 
 pass-requires : tie.Need-pass-requires
 pass-requires c κs = search needs
@@ -46,16 +43,24 @@ enum-told c = search needs
 returns : tie.Need-returns
 returns c =
     let p = c .before .before in
-    wrong-first (p .before .before .args .bytes .now) (small (p .before)) (subst (Passes (p .before .before .args .bytes .now) 0 1 2) (c .enum-told .given .1) (p .pass .ensures))
+    let b = p .before .before .args .bytes .now in
+    (refl, wrong-first b (small (p .before)) (subst (Passes b 0 countKind countSize) (c .enum-told .given .1) (p .pass .ensures)))
+
+cast-number : tie.Need-cast-number
+cast-number c = search needs
 
 number-requires : tie.Need-number-requires
 number-requires c κs = (omega arith, omega (arith, first-is (c .before) .0 .fits))
 
+cast-if1 : tie.Need-cast-if1
+cast-if1 c = search needs
+
 returns-2 : tie.Need-returns-2
 returns-2 c =
     let n = c .before in
-    let s = n .before .before .before .before .before in
-    wrong-count (s .before .args .bytes .now) (small s) (n .number .result) (n .number .ensures) (c .if1 .taken)
+    let f = n .before .before in
+    let s = f .before .before .before in
+    (refl, wrong-count (s .before .args .bytes .now) (small s) (f .first .given .0 .0) (n .number .result) (first-is f) (n .number .ensures) (c .if1 .taken))
 
 pass-connections-requires : tie.Need-pass-connections-requires
 pass-connections-requires c κs = let f = first-is (c .before .before .before) in omega (arith, f .0 .fits, f .1)
@@ -72,11 +77,14 @@ returns-3 c =
     let n = p .before .before in
     let f = n .before .before in
     let s = f .before .before .before in
-    wrong-connections (s .before .args .bytes .now) (small s) (n .number .result) (n .number .ensures) (f .first .given .0 .0) (first-is f .1)
-    (subst (PassesAll (s .before .args .bytes .now) (f .first .given .0 .0) (n .number .result)) (c .enum-told2 .given .1) (p .pass-connections .ensures))
+    let b = s .before .args .bytes .now in (
+      refl,
+      wrong-connections b (small s) (f .first .given .0 .0) (n .number .result) (first-is f) (n .number .ensures)
+          (subst (PassesAll b (f .first .given .0 .0) (n .number .result)) (c .enum-told2 .given .1) (p .pass-connections .ensures)),
+    )
 
 pass-requires-2 : tie.Need-pass-requires-2
-pass-requires-2 c κs = each-is (c .before) .2
+pass-requires-2 c κs = each-is (c .before) .1
 
 enum-known-last : tie.Need-enum-known-last
 enum-known-last c = search needs
@@ -91,8 +99,11 @@ returns-4 c =
     let n = e .before .before .before .before in
     let f = n .before .before in
     let s = f .before .before .before in
-    wrong-last (s .before .args .bytes .now) (small s) (n .number .result) (n .number .ensures) (f .first .given .0 .0) (first-is f .1) (e .each .given .0 .0) (each-is e .1)
-    (subst (Passes (s .before .args .bytes .now) (e .each .given .0 .0) 3 128) (c .enum-told3 .given .1) (p .pass2 .ensures))
+    let b = s .before .args .bytes .now in (
+      refl,
+      wrong-last b (small s) (f .first .given .0 .0) (n .number .result) (first-is f) (n .number .ensures) (e .each .given .0 .0) (each-is e .0)
+          (subst (Passes b (e .each .given .0 .0) treeKind treeSize) (c .enum-told3 .given .1) (p .pass2 .ensures)),
+    )
 
 returns-5 : tie.Need-returns-5
 returns-5 c =
@@ -101,11 +112,10 @@ returns-5 c =
     let n = e .before .before .before .before in
     let f = n .before .before in
     let s = f .before .before .before in
-    wrong-end (s .before .args .bytes .now) (small s) (n .number .result) (n .number .ensures) (f .first .given .0 .0) (first-is f .1) (e .each .given .0 .0) (each-is e .1)
-    (λ q. c .if2 .taken (last-is l .1 ∙ q))
+    (refl, wrong-end (s .before .args .bytes .now) (small s) (f .first .given .0 .0) (n .number .result) (first-is f) (n .number .ensures) (e .each .given .0 .0) (each-is e .0) (l .last .given .0 .0) (last-is l) (c .if2 .taken))
 
-cast-t11 : tie.Need-cast-t11
-cast-t11 c = search needs
+cast-t12 : tie.Need-cast-t12
+cast-t12 c = search needs
 
 returns-6 : tie.Need-returns-6
 returns-6 c =
@@ -114,8 +124,7 @@ returns-6 c =
     let n = e .before .before .before .before in
     let f = n .before .before in
     let s = f .before .before .before in
-    right (s .before .args .bytes .now) (small s) (n .number .result) (n .number .ensures) (f .first .given .0 .0) (first-is f .1) (e .each .given .0 .0) (each-is e .1)
-    (omega arith) (first-is f .0) (each-is e .0) (last-is l .0) (sym (last-is l .1) ∙ c .if2 .left)
+    right (s .before .args .bytes .now) (small s) (f .first .given .0 .0) (n .number .result) (first-is f) (n .number .ensures) (e .each .given .0 .0) (each-is e .0) (l .last .given .0 .0) (last-is l) (omega arith) (c .if2 .left)
 
 pub framed-spec : {M : Type 1} → statement M
 framed-spec =
@@ -125,7 +134,9 @@ framed-spec =
     enum-known-first
     enum-told
     returns
+    cast-number
     number-requires
+    cast-if1
     returns-2
     pass-connections-requires
     enum-known-each
@@ -136,5 +147,5 @@ framed-spec =
     enum-told-3
     returns-4
     returns-5
-    cast-t11
+    cast-t12
     returns-6)

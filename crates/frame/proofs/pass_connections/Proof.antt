@@ -1,25 +1,31 @@
--- `frame::pass_connections` meets its contract. The invariant: i records of connections are passed, and the cursor is after them.
+-- `frame::pass_connections` meets its contract. The invariant: i of the records are passed, and it is up to the others, from the cursor on.
 use borrow.Author.Needs.{needs}
-use mathlib.Core.Path.{_≡_, sym, subst}
-use Prim.Native.Nat.{ℕ, _+_, _-_, _*_, _≤_}
+use mathlib.Core.Path.{subst}
+use Prim.Native.Nat.{_-_, _≤_}
 use native.Mathlib.Omega.{arith}
 use lib.ListN.{length}
-use Rattle.frame.specs.Promises.{Passes, RecordAt, ConnectionsAt}
-use Rattle.frame.proofs.ReadLaws.{connections-more}
+use Rattle.rules.specs.Form.{connectionKind, connectionSize}
+use Rattle.basics.proofs.BytesLaws.{AllBytes}
+use Rattle.frame.specs.Promises.{Passes}
+use Rattle.frame.proofs.ReadLaws.{PassedSoFar, connections-none, connections-more, connections-missing, connections-all}
 use Rattle.frame.proofs.pass_connections.Statement.{statement}
 use Rattle.frame.proofs.pass_connections.Tie as tie
 
 abbrev Inv-loop : tie.InvT-loop
-Inv-loop bytes at n cursor₀ i₀ cursor i = (i ≤ n) × ConnectionsAt bytes at i × (cursor ≡ at + 18 * i) × (cursor ≤ length bytes)
+Inv-loop bytes at n cursor₀ i₀ cursor i = (i ≤ n) × PassedSoFar bytes at n i cursor × (cursor ≤ length bytes)
 
 abbrev μ-loop : tie.MeasureT-loop
 μ-loop bytes at n cursor₀ i₀ cursor i = n - i
 
+-- the slice holds bytes
+small : (c : tie.After-shared-slice-known Inv-loop μ-loop) → AllBytes (c .before .args .bytes .now)
+small c i = omega (arith, c .shared-slice-known .given i)
+
 loop-holds : tie.Need-loop-holds Inv-loop μ-loop
-loop-holds c = (omega arith, λ i l. absurd (omega arith), omega arith, c .before .pre)
+loop-holds c = (omega arith, connections-none (c .before .args .bytes .now) (small c) (c .before .args .at) (c .before .args .n), c .before .pre)
 
 pass-requires : tie.Need-pass-requires Inv-loop μ-loop
-pass-requires c κs = c .before .loop .inv .3
+pass-requires c κs = c .before .loop .inv .2
 
 enum-known-one : tie.Need-enum-known-one Inv-loop μ-loop
 enum-known-one c = search needs
@@ -28,12 +34,13 @@ enum-told : tie.Need-enum-told Inv-loop μ-loop
 enum-told c = search needs
 
 returns : tie.Need-returns Inv-loop μ-loop
-returns c all =
+returns c =
     let p = c .before .before in
     let l = p .before .before .loop in
-    let a = p .before .before .before .before .args in
-    subst (Passes (a .bytes .now) (l .cursor) 2 14) (c .enum-told .given .1) (p .pass .ensures)
-    (subst (λ (x : ℕ). RecordAt (a .bytes .now) x 2 14) (sym (l .inv .2)) (all (l .i) (p .before .loop-test .taken)))
+    let s = p .before .before .before in
+    let a = s .before .args in
+    connections-missing (a .bytes .now) (small s) (a .at) (a .n) (l .i) (l .cursor) (p .before .loop-test .taken) (l .inv .1)
+    (subst (Passes (a .bytes .now) (l .cursor) connectionKind connectionSize) (c .enum-told .given .1) (p .pass .ensures))
 
 add-i : tie.Need-add-i Inv-loop μ-loop
 add-i c = search needs
@@ -45,14 +52,17 @@ loop-again : tie.Need-loop-again Inv-loop μ-loop
 loop-again c =
     let p = c .before .before .before in
     let l = p .before .before .loop in
-    let a = p .before .before .before .before .args in
-    let r = subst (Passes (a .bytes .now) (l .cursor) 2 14) (c .before .one .given .1) (p .pass .ensures) in
-    (omega arith, connections-more (a .bytes .now) (a .at) (l .i) (l .cursor) (l .inv .1) (l .inv .2) (r .0), omega (arith, r .1), omega (arith, r .1, r .0 .fits))
+    let s = p .before .before .before in
+    let a = s .before .args in
+    let r = subst (Passes (a .bytes .now) (l .cursor) connectionKind connectionSize) (c .before .one .given .1) (p .pass .ensures) in
+    (omega arith, connections-more (a .bytes .now) (small s) (a .at) (a .n) (l .i) (l .cursor) (p .before .loop-test .taken) (l .inv .1) (c .before .one .given .0 .0) r, omega (arith, r .1, r .0 .fits))
 
 returns-2 : tie.Need-returns-2 Inv-loop μ-loop
 returns-2 c =
     let l = c .before .loop in
-    (λ i h. l .inv .1 i (omega arith), omega arith, l .inv .3)
+    let s = c .before .before in
+    let a = s .before .args in
+    (connections-all (a .bytes .now) (small s) (a .at) (a .n) (l .i) (l .cursor) (omega arith) (l .inv .1), l .inv .2)
 
 pub pass-connections-spec : {M : Type 1} → statement M
 pass-connections-spec =

@@ -1,17 +1,11 @@
 -- `gateway::main` reads within its buffer, and writes what was printed.
 use borrow.Author.Needs.{needs}
-use mathlib.Core.Path.{sym, subst}
-use Prim.Native.Nat.{_≤_}
-use lib.ListN.{length}
+use mathlib.Core.Path.{sym}
 use lib.Seq.{length-take-le}
 use Rattle.command.proofs.Calls.{runs-within}
-use Rattle.input.specs.Promises.{Holds}
+use Rattle.input.proofs.Reading.{held, held-part}
 use Rattle.gateway.proofs.main.Statement.{statement}
 use Rattle.gateway.proofs.main.Tie as tie
-
--- what was read lies within the buffer
-held : (c : tie.After-known-told) → c .before .input .given .0 .0 ≤ length (c .before .before .before .before .read-all .last .0)
-held c = subst (Holds (length (c .before .before .before .before .read-all .last .0))) (c .before .input .given .1) (c .before .before .before .before .read-all .ensures)
 
 slice-aggregate-read-all : tie.Need-slice-aggregate-read-all
 slice-aggregate-read-all c = search needs
@@ -35,10 +29,10 @@ returns : tie.Need-returns
 returns c = search needs
 
 array-share-prefix-buffer : tie.Need-array-share-prefix-buffer
-array-share-prefix-buffer c = held c
+array-share-prefix-buffer c = held (c .before .before .before .before .read-all .ensures) (c .before .input .given .1)
 
 slice-aggregate-run : tie.Need-slice-aggregate-run
-slice-aggregate-run c = sym (length-take-le _ _ (held (c .before)))
+slice-aggregate-run c = held-part (c .before .before .before .before .before .read-all .last .0) (c .before .before .before .before .before .read-all .ensures) (c .before .before .input .given .1)
 
 run-requires : tie.Need-run-requires
 run-requires c κs = search needs

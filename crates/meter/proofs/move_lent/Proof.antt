@@ -40,6 +40,7 @@ use denote.Triple.Spec.{Meets, tripleOf}
 use denote.Triple.Table.{entered, cited}
 use denote.Triple.Walked.{says, needs, Stays, stay-ref, stay-none, walkOf, AllGo, goes-none, goes-ref, Walks, ends-at, walked, walk-meets}
 use denote.Exit.{yes}
+use Rattle.rules.specs.Time.{listMicros}
 use Rattle.rules.specs.Meter.{movedMeter}
 use Rattle.rules.specs.declared.Meter.{Meter}
 use Rattle.rules.proofs.Meter as T
@@ -88,7 +89,7 @@ module _ {M : Type 1} (𝓤 : URA M) (H : Heap 𝓤) (A : Atoms 𝓤) (W : Given
   abbrev to : G 𝓤 H A at-mem run .Ghost
   to = ((tt, tt, tt, (h, numbers), (mach ∷ [], number-vals)), tt)
 
-  asked : (h .estimate ≤ 4000000) × (n ≤ 4000000) → Is T.the-row h (mach ∷ []) → ent 𝓤 (emp 𝓤) (G 𝓤 H A at-mem run .pre to)
+  asked : (h .estimate ≤ listMicros) × (n ≤ listMicros) → Is T.the-row h (mach ∷ []) → ent 𝓤 (emp 𝓤) (G 𝓤 H A at-mem run .pre to)
   asked ok is =
       qed W [] ∵ says ! ok $ nothing ! $ owned ! u16 (Is u16) (uint-makes 𝓤 H A W w16) hi _ (refl, ghi) $ fjoin ! $
       owned ! u16 (Is u16) (uint-makes 𝓤 H A W w16) lo _ (refl, glo) $ fjoin ! $ owned ! u32 (Is u32) (uint-makes 𝓤 H A W w32) n _ (refl, gn) $ fjoin ! $
@@ -112,7 +113,7 @@ module _ {M : Type 1} (𝓤 : URA M) (H : Heap 𝓤) (A : Atoms 𝓤) (W : Given
       move ! (1 ∷ 0 ∷ []) $ fjoin ! $ feqI ! (List Val) (vunit ∷ []) (vunit ∷ []) refl $ move ! (1 ∷ 0 ∷ []) $ done !
 
   module _ (C : Calls 𝓤 H) (Λ : Loops 𝓤 H) (fm : FmC 𝓤 H (W .laws) C) (known : Triple 𝓤 (C #meter·moved-meter) (G 𝓤 H A at-mem run)) where
-    walk : (h .estimate ≤ 4000000) × (n ≤ 4000000)
+    walk : (h .estimate ≤ listMicros) × (n ≤ listMicros)
         → ent 𝓤 (onEntry 𝓤 H A f.signature (κ, tt) (q, tt) x at) (WpFn 𝓤 H C Λ code.function vals Post)
     walk ok =
         qed W ((‵ (flft κ q) ⊛ ‵ ftrue) ∷ ‵ (owns (MutRef (named 0) κ T.the-row ∷ u32 ∷ u16 ∷ u16 ∷ []) x at) ∷ []) ∵

@@ -43,6 +43,7 @@ use denote.Triple.Spec.{Meets, tripleOf}
 use denote.Triple.Table.{entered, cited}
 use denote.Triple.Walked.{says, needs, Stays, stay-none, walkOf, AllGo, goes-none, Walks, ends-at, walked, walk-meets}
 use denote.Exit.{yes}
+use Rattle.rules.specs.Time.{listMicros}
 use Rattle.rules.specs.Meter.{movedMeter}
 use Rattle.rules.specs.declared.Meter.{Meter}
 use Rattle.rules.proofs.Meter as T
@@ -118,7 +119,7 @@ module _ {M : Type 1} (𝓤 : URA M) (H : Heap 𝓤) (A : Atoms 𝓤) (W : Given
   abbrev to : ℕ → ℕ → GName → G 𝓤 H A at-mem run .Ghost
   to α b γ = (((α ∷ [], tt), (fullShare, tt), tt, (ref b γ, numbers), (vptr b 0 ∷ [], number-vals)), tt)
 
-  asked : (e ≤ 4000000) × (n ≤ 4000000) → (α b : ℕ) (γ : GName)
+  asked : (e ≤ listMicros) × (n ≤ listMicros) → (α b : ℕ) (γ : GName)
       → ent 𝓤 (sep 𝓤 (A .lft (α ∷ []) fullShare) (sem 𝓤 H A (MutRef (named 0) (α ∷ []) T.the-row .own (ref b γ) (vptr b 0 ∷ []))))
       (G 𝓤 H A at-mem run .pre (to α b γ))
   asked ok α b γ =
@@ -141,7 +142,7 @@ module _ {M : Type 1} (𝓤 : URA M) (H : Heap 𝓤) (A : Atoms 𝓤) (W : Given
       nothing ! $ frame ! $ frame ! $ done !
 
   module _ (C : Calls 𝓤 H) (Λ : Loops 𝓤 H) (fm : FmC 𝓤 H (W .laws) C) (known : Triple 𝓤 (C #meter·move-lent) (G 𝓤 H A at-mem run)) where
-    walk : (e ≤ 4000000) × (n ≤ 4000000) → ent 𝓤 (onEntry 𝓤 H A f.signature tt tt x at) (WpFn 𝓤 H C Λ code.function vals Post)
+    walk : (e ≤ listMicros) × (n ≤ listMicros) → ent 𝓤 (onEntry 𝓤 H A f.signature tt tt x at) (WpFn 𝓤 H C Λ code.function vals Post)
     walk ok =
         qed W (‵ ftrue ∷ ‵ (owns (u32 ∷ u16 ∷ u32 ∷ u16 ∷ u16 ∷ []) x at) ∷ []) ∵ keep ! [] $ enter ! C Λ code.function vals _ $
         alloc1 ! (λ l₀. alloc1 ! (λ l₁. alloc1 ! (λ l₂. alloc1 ! (λ l₃. alloc1 ! (λ l₄. alloc1 ! (λ l₅. alloc1 ! (λ l₆. alloc1 ! (λ l₇. alloc1 ! (λ l₈.

@@ -2,6 +2,7 @@
 use borrow.Author.Needs.{needs}
 use mathlib.Core.Path.{ap, ap₂, _∙_}
 use Prim.Native.Nat.{ℕ}
+use Rattle.rules.specs.Time.{listMicros}
 use Rattle.rules.specs.declared.Meter.{Meter}
 use Rattle.rules.specs.Meter.{need, target, movedMeter}
 use Rattle.calls.proofs.MeterLaws.{moved-most}
@@ -14,7 +15,7 @@ moved-requires c κs = search needs
 need-requires : tie.Need-need-requires
 need-requires c κs =
     let a = c .before in
-    rw (c .moved .ensures) (moved-most (a .args .m .estimate) (a .args .sample) 4000000 (a .pre .0) (a .pre .1))
+    rw (c .moved .ensures) (moved-most (a .args .m .estimate) (a .args .sample) listMicros (a .pre .0) (a .pre .1))
 
 target-requires : tie.Need-target-requires
 target-requires c κs = search needs

@@ -67,11 +67,11 @@ returns-3 c f e =
     (ap (λ (F : ℕ). shareWrong (a .floor) (a .ceiling) F) (sym (c .before .before .before .factor .ensures .is))
     ∙ wrong-told (a .floor) (a .ceiling) _ (ap ofShare (sym (c .enum-told3 .given .1)) ∙ c .before .before .share-of .ensures))
 
-cast-place : tie.Need-cast-place
-cast-place c = search needs
+cast-first-open : tie.Need-cast-first-open
+cast-first-open c = search needs
 
-place-requires : tie.Need-place-requires
-place-requires c κs =
+first-open-requires : tie.Need-first-open-requires
+first-open-requires c κs =
     let k = c .before .before .before .before .before in
     let a = k .before .before .before .before in
     let b = share-bounds (a .args .floor) (a .args .ceiling) (2 ^ k .k .given .0 .0) (share-is c) in
@@ -88,13 +88,13 @@ returns-4 c f e =
     let p = c .before .before in
     let k = p .before .before .before .before .before .before in
     plan-6 f _ _ _ _ (k .before .before .before .if1 .left) _ (k-told k .0) (k-told k .1) (share-is (p .before))
-    (nowhere-told f _ _ (ap ofPlace (sym (c .enum-told4 .given .1)) ∙ p .place .ensures f e))
+    (nowhere-told f _ _ (ap ofPlace (sym (c .enum-told4 .given .1)) ∙ p .first-open .ensures f e))
 
 returns-5 : tie.Need-returns-5
 returns-5 c f e =
     let p = c .before .before .before in
     let k = p .before .before .before .before .before .before in
-    let w = place-told f _ _ _ (ap ofPlace (sym (c .before .anchor .given .1)) ∙ p .place .ensures f e) in
+    let w = place-told f _ _ _ (ap ofPlace (sym (c .before .anchor .given .1)) ∙ p .first-open .ensures f e) in
     plan-ok f _ _ _ _ (k .before .before .before .if1 .left) _ (k-told k .0) (k-told k .1) (share-is (p .before)) (w .0) _ (w .1) (w .2)
 
 pub plan-spec : {M : Type 1} → statement M
@@ -112,8 +112,8 @@ plan-spec =
     enum-told-2
     enum-told-3
     returns-3
-    cast-place
-    place-requires
+    cast-first-open
+    first-open-requires
     enum-known-anchor
     enum-told-4
     returns-4

@@ -1,17 +1,9 @@
 -- `probe::main` reads within its buffer, and performs what was read.
 use borrow.Author.Needs.{needs}
-use mathlib.Core.Path.{sym, subst}
-use Prim.Native.Nat.{_≤_}
 use native.Mathlib.Omega.{arith}
-use lib.ListN.{length}
-use lib.Seq.{length-take-le}
-use Rattle.input.specs.Promises.{Holds}
+use Rattle.input.proofs.Reading.{held, held-part}
 use Rattle.probe.proofs.main.Statement.{statement}
 use Rattle.probe.proofs.main.Tie as tie
-
--- what was read lies within the buffer
-held : (c : tie.After-known-told) → c .before .input .given .0 .0 ≤ length (c .before .before .before .before .read-all .last .0)
-held c = subst (Holds (length (c .before .before .before .before .read-all .last .0))) (c .before .input .given .1) (c .before .before .before .before .read-all .ensures)
 
 slice-aggregate-read-all : tie.Need-slice-aggregate-read-all
 slice-aggregate-read-all c = search needs
@@ -44,16 +36,13 @@ returns-2 : tie.Need-returns-2
 returns-2 c = search needs
 
 array-share-prefix-buffer : tie.Need-array-share-prefix-buffer
-array-share-prefix-buffer c = held (c .before)
+array-share-prefix-buffer c = held (c .before .before .before .before .before .read-all .ensures) (c .before .before .input .given .1)
 
 slice-aggregate-perform-all : tie.Need-slice-aggregate-perform-all
-slice-aggregate-perform-all c = sym (length-take-le _ _ (held (c .before .before)))
+slice-aggregate-perform-all c = held-part (c .before .before .before .before .before .before .read-all .last .0) (c .before .before .before .before .before .before .read-all .ensures) (c .before .before .before .input .given .1)
 
 perform-all-requires : tie.Need-perform-all-requires
-perform-all-requires c κs =
-    let h = held (c .before .before) in
-    let t = length-take-le (c .before .before .before .input .given .0 .0) (c .before .before .before .before .before .before .read-all .last .0) h in
-    omega (arith, t, c .before .if1 .left)
+perform-all-requires c κs = omega (arith, held-part (c .before .before .before .before .before .before .read-all .last .0) (c .before .before .before .before .before .before .read-all .ensures) (c .before .before .before .input .given .1), c .before .if1 .left)
 
 slice-aggregate-write-all-3 : tie.Need-slice-aggregate-write-all-3
 slice-aggregate-write-all-3 c = search needs

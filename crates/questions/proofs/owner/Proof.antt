@@ -20,6 +20,12 @@ Inv-loop block s h₀ h = (h ≤ 64) × ((j : ℕ) → j < h → owns (connectio
 abbrev μ-loop : tie.MeasureT-loop
 μ-loop block s h₀ h = 64 - h
 
+cast-is-free : tie.Need-cast-is-free Inv-loop μ-loop
+cast-is-free c = search needs
+
+rem-is-free : tie.Need-rem-is-free Inv-loop μ-loop
+rem-is-free c = search needs
+
 is-free-requires : tie.Need-is-free-requires Inv-loop μ-loop
 is-free-requires c κs = (search needs, mod-lt _ (omega arith), (taken (c .before .before .args .t1 .connections), good-tree (c .before .before .args .t1) (c .before .before .pre)))
 
@@ -43,8 +49,8 @@ owns-requires c κs =
     let a = c .before .before .before .before .before .before .before in
     good-sound (a .args .t1) (a .pre) .numbers (c .before .before .loop .h)
 
-cast-t14 : tie.Need-cast-t14 Inv-loop μ-loop
-cast-t14 c = search needs
+cast-t15 : tie.Need-cast-t15 Inv-loop μ-loop
+cast-t15 c = search needs
 
 returns-2 : tie.Need-returns-2 Inv-loop μ-loop
 returns-2 c =
@@ -78,4 +84,4 @@ returns-3 c =
 pub owner-spec : {M : Type 1} → statement M
 owner-spec =
     tie.close
-    (tie.spec Inv-loop μ-loop is-free-requires returns loop-holds mul-owns element-copy-out-owns owns-requires cast-t14 returns-2 add-h loop-less loop-again returns-3)
+    (tie.spec Inv-loop μ-loop cast-is-free rem-is-free is-free-requires returns loop-holds mul-owns element-copy-out-owns owns-requires cast-t15 returns-2 add-h loop-less loop-again returns-3)

@@ -1,7 +1,7 @@
 -- `restore::connection_at` meets its contract, field by field.
 use borrow.Author.Needs.{needs}
 use mathlib.Core.Bool.{true}
-use Rattle.rules.specs.Load.{connectionIn}
+use Rattle.rules.specs.Fields.{connectionIn}
 use Rattle.restore.proofs.connection_at.Statement.{statement}
 use Rattle.restore.proofs.connection_at.Tie as tie
 
@@ -37,16 +37,16 @@ field-requires-6 c κs = search needs
 
 returns : tie.Need-returns
 unfolding connectionIn
-returns c i =
+returns c p g i =
     let b = c .before in
     record {
       live = true;
-      k = b .before .before .before .before .field .ensures .is i;
-      length = b .before .before .before .field2 .ensures .is i;
-      floor = b .before .before .field3 .ensures .is i;
-      ceiling = b .before .field4 .ensures .is i;
-      anchor = b .field5 .ensures .is i;
-      estimate = c .field6 .ensures .is i;
+      k = b .before .before .before .before .field .ensures .0 p g i;
+      length = b .before .before .before .field2 .ensures .0 p g i;
+      floor = b .before .before .field3 .ensures .0 p g i;
+      ceiling = b .before .field4 .ensures .0 p g i;
+      anchor = b .field5 .ensures .0 p g i;
+      estimate = c .field6 .ensures .0 p g i;
     }
 
 pub connection-at-spec : {M : Type 1} → statement M

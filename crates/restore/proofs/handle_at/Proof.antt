@@ -1,6 +1,6 @@
 -- `restore::handle_at` meets its contract.
 use borrow.Author.Needs.{needs}
-use Rattle.rules.specs.Load.{handleIn}
+use Rattle.rules.specs.Fields.{handleIn}
 use Rattle.restore.proofs.handle_at.Statement.{statement}
 use Rattle.restore.proofs.handle_at.Tie as tie
 
@@ -12,7 +12,7 @@ cast-result c = search needs
 
 returns : tie.Need-returns
 unfolding handleIn
-returns c = c .field .ensures .is
+returns c = c .field .ensures .0
 
 pub handle-at-spec : {M : Type 1} → statement M
 handle-at-spec = tie.close (tie.spec field-requires cast-result returns)

@@ -1,61 +1,86 @@
 -- `restore::records_sound` meets its contract. The invariant: the cursor is before record i, and what the check says is what it says of the records from i on, above `least`.
 use borrow.Author.Needs.{needs}
 use mathlib.Core.Path.{_≡_, sym, ap, _∙_}
-use Prim.Native.Nat.{_+_, _-_, _≤_}
+use Prim.Native.Nat.{_+_, _-_, _<_, _≤_}
 use native.Mathlib.Omega.{arith}
 use lib.ListN.{length}
 use borrow.Author.Tests.{not-true, not-false}
 use Rattle.rules.specs.Sound.{soundNumbers}
-use Rattle.rules.specs.Load.{handleIn, connectionIn}
-use Rattle.rules.specs.LoadSteps.{pieceAt}
-use Rattle.restore.proofs.Records.{Cursor, cursor-first, cursor-room, cursor-next, record-at, Tested, tested-none, tested-above, tested-falls, tested-fails, tested-more, tested-all}
+use Rattle.rules.specs.Records.{nth}
+use Rattle.rules.specs.Form.{connectionSize}
+use Rattle.rules.specs.Fields.{handleIn, connectionIn}
+use Rattle.basics.proofs.BytesLaws.{AllBytes}
+use Rattle.images.proofs.FrameLaws.{connections-long}
+use Rattle.restore.specs.Promises.{GoesOn, records}
+use Rattle.restore.proofs.Records.{Cursor, room-first, cursor-first, goes-on, cursor-room, cursor-next, Tested, tested-none, tested-above, tested-falls, tested-fails, tested-more, tested-all}
 use Rattle.restore.proofs.records_sound.Statement.{statement}
 use Rattle.restore.proofs.records_sound.Tie as tie
 
 abbrev Inv-loop : tie.InvT-loop
-Inv-loop bytes n cursor₀ least₀ i₀ cursor least i = (i ≤ n) × Cursor i cursor × Tested bytes n i least
+Inv-loop bytes n cursor₀ least₀ i₀ cursor least i = (i ≤ n) × Cursor bytes i cursor × Tested (records bytes) i least
 
 abbrev μ-loop : tie.MeasureT-loop
 μ-loop bytes n cursor₀ least₀ i₀ cursor least i = n - i
 
+-- the slice holds bytes
+small : (c : tie.After-shared-slice-known Inv-loop μ-loop) → AllBytes (c .before .args .bytes .now)
+small c i = omega (arith, c .shared-slice-known .given i)
+
 next-requires : tie.Need-next-requires Inv-loop μ-loop
-next-requires c κs = omega (arith, c .before .pre .long)
+next-requires c κs = room-first (c .before .args .bytes .now) (c .before .args .n) (c .before .pre) (small c)
 
 loop-holds : tie.Need-loop-holds Inv-loop μ-loop
 loop-holds c =
-    let a = c .before .before in
-    (omega arith, cursor-first (a .args .bytes .now) (a .args .n) (a .pre) (c .next .result) (c .next .ensures), tested-none (a .args .bytes .now) (a .args .n))
+    let s = c .before in
+    let a = s .before in
+    (omega arith, cursor-first (a .args .bytes .now) (a .args .n) (a .pre) (small s) (c .next .result) (c .next .ensures), tested-none (records (a .args .bytes .now)))
 
--- the record is whole
-room : (c : tie.In-loop Inv-loop μ-loop) → c .before .loop .cursor + 18 ≤ length (c .before .before .before .before .args .bytes .now)
+-- record i is there, and is whole
+here : (c : tie.In-loop Inv-loop μ-loop) → GoesOn (c .before .before .before .before .args .bytes .now) (c .before .loop .cursor) (nth (records (c .before .before .before .before .args .bytes .now)) (c .before .loop .i))
+here c =
+    let l = c .before .loop in
+    let s = c .before .before .before in
+    let a = s .before in
+    goes-on (a .args .bytes .now) (a .args .n) (a .pre) (small s) (l .i) (c .loop-test .taken) (l .cursor) (l .inv .1)
+
+room : (c : tie.In-loop Inv-loop μ-loop) → c .before .loop .cursor + (4 + connectionSize) ≤ length (c .before .before .before .before .args .bytes .now)
 room c =
     let l = c .before .loop in
-    let a = c .before .before .before .before in
-    cursor-room (a .args .bytes .now) (a .args .n) (a .pre) (l .i) (c .loop-test .taken) (l .cursor) (l .inv .1)
+    let s = c .before .before .before in
+    let a = s .before in
+    cursor-room (a .args .bytes .now) (a .args .n) (a .pre) (small s) (l .i) (c .loop-test .taken) (l .cursor) (l .inv .1)
+
+-- it is one of the records
+inside : (c : tie.In-loop Inv-loop μ-loop) → c .before .loop .i < length (records (c .before .before .before .before .args .bytes .now))
+inside c =
+    let s = c .before .before .before in
+    let a = s .before in
+    omega (arith, connections-long (a .args .bytes .now) (a .args .n) (a .pre) (small s), c .loop-test .taken)
 
 handle-at-requires : tie.Need-handle-at-requires Inv-loop μ-loop
 handle-at-requires c κs = room c
 
 -- its handle
 handle-read : (c : tie.After-handle-at Inv-loop μ-loop)
-    → c .handle-at .result ≡ handleIn (pieceAt (c .before .before .before .before .before .args .bytes .now) (c .before .before .loop .i))
-handle-read c =
-    let l = c .before .before .loop in
-    c .handle-at .ensures ∙ ap handleIn (record-at (c .before .before .before .before .before .args .bytes .now) (l .i) (l .cursor) (l .inv .1))
+    → c .handle-at .result ≡ handleIn (nth (records (c .before .before .before .before .before .args .bytes .now)) (c .before .before .loop .i))
+handle-read c = c .handle-at .ensures _ (here (c .before))
+
+cast-if1 : tie.Need-cast-if1 Inv-loop μ-loop
+cast-if1 c = search needs
 
 returns : tie.Need-returns Inv-loop μ-loop
 returns c =
     let h = c .before in
     let l = h .before .before .loop in
     let a = h .before .before .before .before .before .args in
-    sym (tested-above (a .bytes .now) (a .n) (l .i) (l .least) (h .handle-at .result) (h .before .loop-test .taken) (l .inv .2) (handle-read h) (c .if1 .taken))
+    sym (tested-above (records (a .bytes .now)) (l .i) (l .least) (h .handle-at .result) (inside (h .before)) (l .inv .2) (handle-read h) (c .if1 .taken))
 
 returns-2 : tie.Need-returns-2 Inv-loop μ-loop
 returns-2 c =
     let h = c .before .before in
     let l = h .before .before .loop in
     let a = h .before .before .before .before .before .args in
-    sym (tested-falls (a .bytes .now) (a .n) (l .i) (l .least) (h .handle-at .result) (h .before .loop-test .taken) (l .inv .2) (handle-read h) (c .if2 .taken))
+    sym (tested-falls (records (a .bytes .now)) (l .i) (l .least) (h .handle-at .result) (inside (h .before)) (l .inv .2) (handle-read h) (c .if2 .taken))
 
 connection-at-requires : tie.Need-connection-at-requires Inv-loop μ-loop
 connection-at-requires c κs = room (c .before .before .before)
@@ -65,11 +90,8 @@ numbers-sound-requires c κs = search needs
 
 -- what the test says of the record's connection
 numbers-said : (c : tie.After-numbers-sound Inv-loop μ-loop)
-    → soundNumbers (connectionIn (pieceAt (c .before .before .before .before .before .before .before .before .before .args .bytes .now) (c .before .before .before .before .before .before .loop .i))) ≡ c .numbers-sound .result
-numbers-said c =
-    let l = c .before .before .before .before .before .before in
-    sym (c .numbers-sound .ensures
-    ∙ ap soundNumbers (c .before .connection-at .ensures ∙ ap connectionIn (record-at (l .before .before .before .args .bytes .now) (l .loop .i) (l .loop .cursor) (l .loop .inv .1))))
+    → soundNumbers (connectionIn (nth (records (c .before .before .before .before .before .before .before .before .before .args .bytes .now)) (c .before .before .before .before .before .before .loop .i))) ≡ c .numbers-sound .result
+numbers-said c = sym (c .numbers-sound .ensures ∙ ap soundNumbers (c .before .connection-at .ensures _ (here (c .before .before .before .before .before))))
 
 returns-3 : tie.Need-returns-3 Inv-loop μ-loop
 returns-3 c =
@@ -77,7 +99,7 @@ returns-3 c =
     let h = e .before .before in
     let l = h .before .before .loop in
     let a = h .before .before .before .before .before .args in
-    sym (tested-fails (a .bytes .now) (a .n) (l .i) (l .least) (h .handle-at .result) (h .before .loop-test .taken) (l .inv .2) (handle-read h)
+    sym (tested-fails (records (a .bytes .now)) (l .i) (l .least) (h .handle-at .result) (inside (h .before)) (l .inv .2) (handle-read h)
     (numbers-said (c .before) ∙ not-true (c .before .numbers-sound .result) (c .if3 .taken)))
 
 add-least : tie.Need-add-least Inv-loop μ-loop
@@ -98,18 +120,20 @@ loop-again c =
     let e = t .before .before .before in
     let h = e .before .before in
     let l = h .before .before .loop in
-    let a = h .before .before .before .before .before in (
+    let s = h .before .before .before .before in
+    let a = s .before in (
       omega arith,
-      cursor-next (a .args .bytes .now) (a .args .n) (a .pre) (l .i) (h .before .loop-test .taken) (l .cursor) (l .inv .1) (c .next2 .result) (c .next2 .ensures),
-      tested-more (a .args .bytes .now) (a .args .n) (l .i) (l .least) (h .handle-at .result) (h .before .loop-test .taken) (l .inv .2) (handle-read h) (e .before .if1 .left) (e .if2 .left)
+      cursor-next (a .args .bytes .now) (a .args .n) (a .pre) (small s) (l .i) (h .before .loop-test .taken) (l .cursor) (l .inv .1) (c .next2 .result) (c .next2 .ensures),
+      tested-more (records (a .args .bytes .now)) (l .i) (l .least) (h .handle-at .result) (inside (h .before)) (l .inv .2) (handle-read h) (e .before .if1 .left) (e .if2 .left)
           (numbers-said (t .before) ∙ not-false (t .before .numbers-sound .result) (t .if3 .left)),
     )
 
 returns-4 : tie.Need-returns-4 Inv-loop μ-loop
 returns-4 c =
     let l = c .before .loop in
-    let a = c .before .before .before .before .args in
-    sym (tested-all (a .bytes .now) (a .n) (l .i) (l .least) (omega arith) (l .inv .2))
+    let s = c .before .before .before in
+    let a = s .before in
+    sym (tested-all (records (a .args .bytes .now)) (l .i) (l .least) (omega (arith, connections-long (a .args .bytes .now) (a .args .n) (a .pre) (small s))) (l .inv .2))
 
 pub records-sound-spec : {M : Type 1} → statement M
 records-sound-spec =
@@ -120,6 +144,7 @@ records-sound-spec =
     next-requires
     loop-holds
     handle-at-requires
+    cast-if1
     returns
     returns-2
     connection-at-requires

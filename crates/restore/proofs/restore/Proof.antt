@@ -1,25 +1,34 @@
 -- `restore::restore` meets its contract. The invariant: the cursor is before record i, and the records before it are taken.
 use borrow.Author.Needs.{needs}
-use mathlib.Core.Path.{_≡_, refl, sym, ap, _∙_}
+use mathlib.Core.Path.{_≡_, refl, sym, _∙_}
 use mathlib.Core.Bool.{true}
 use Prim.Native.Nat.{_+_, _-_, _≤_, _<_}
 use native.Mathlib.Omega.{arith}
 use lib.ListN.{length}
 use borrow.Author.Tests.{not-true, not-false}
-use Rattle.rules.specs.Load.{handleIn, connectionIn}
-use Rattle.rules.specs.LoadSteps.{pieceAt}
+use Rattle.rules.specs.Ownership.{handles}
 use Rattle.rules.specs.Sound.{Numbers}
+use Rattle.rules.specs.Records.{nth}
+use Rattle.rules.specs.Form.{connectionSize}
+use Rattle.rules.specs.Fields.{handleIn, connectionIn}
+use Rattle.basics.proofs.BytesLaws.{AllBytes}
+use Rattle.images.proofs.FrameLaws.{framed-exactly, connections-long}
 use Rattle.tree.specs.Promises.{IsTree}
-use Rattle.restore.proofs.Records.{Cursor, cursor-first, cursor-room, cursor-next, record-at}
+use Rattle.restore.specs.Promises.{GoesOn, records}
+use Rattle.restore.proofs.Records.{Cursor, room-first, cursor-first, goes-on, cursor-room, cursor-next}
 use Rattle.restore.proofs.Turns.{Taken, taken-none, taken-tree, turn-numbers, turn-handle, turn-clash, turn-takes, restores-not, restores-all}
 use Rattle.restore.proofs.restore.Statement.{statement}
 use Rattle.restore.proofs.restore.Tie as tie
 
 abbrev Inv-loop : tie.InvT-loop
-Inv-loop bytes n s₀ cursor₀ apart₀ i₀ s cursor apart i = (i ≤ n) × Cursor i cursor × Taken bytes i (s .connections) (s .tree .bytes) × (apart ≡ true)
+Inv-loop bytes n s₀ cursor₀ apart₀ i₀ s cursor apart i = (i ≤ n) × Cursor bytes i cursor × Taken (records bytes) i (s .connections) (s .tree .bytes) × (apart ≡ true)
 
 abbrev μ-loop : tie.MeasureT-loop
 μ-loop bytes n s₀ cursor₀ apart₀ i₀ s cursor apart i = n - i
+
+-- the slice holds bytes
+small : (c : tie.After-shared-slice-known Inv-loop μ-loop) → AllBytes (c .before .args .bytes .now)
+small c i = omega (arith, c .shared-slice-known .given i)
 
 nobody-requires : tie.Need-nobody-requires Inv-loop μ-loop
 nobody-requires c κs = search needs
@@ -28,60 +37,73 @@ empty-requires : tie.Need-empty-requires Inv-loop μ-loop
 empty-requires c κs = search needs
 
 next-requires : tie.Need-next-requires Inv-loop μ-loop
-next-requires c κs = omega (arith, c .before .before .before .pre .0 .long)
+next-requires c κs =
+    let s = c .before .before in
+    room-first (s .before .args .bytes .now) (s .before .args .n) (s .before .pre .0) (small s)
 
 loop-holds : tie.Need-loop-holds Inv-loop μ-loop
 loop-holds c =
     let m = c .before in
-    let a = m .before .before .before in (
+    let s = m .before .before in
+    let a = s .before in (
       omega arith,
-      cursor-first (a .args .bytes .now) (a .args .n) (a .pre .0) (c .next .result) (c .next .ensures),
-      taken-none (a .args .bytes .now) (m .before .nobody .result) (m .empty .result) (m .before .nobody .ensures) (m .empty .ensures),
+      cursor-first (a .args .bytes .now) (a .args .n) (a .pre .0) (small s) (c .next .result) (c .next .ensures),
+      taken-none (records (a .args .bytes .now)) (m .before .nobody .result) (m .empty .result) (m .before .nobody .ensures) (m .empty .ensures),
       refl,
     )
 
--- the record is whole
-room : (c : tie.In-loop Inv-loop μ-loop) → c .before .loop .cursor + 18 ≤ length (c .before .before .before .before .before .before .args .bytes .now)
+-- record i is there, and is whole
+here : (c : tie.In-loop Inv-loop μ-loop) → GoesOn (c .before .before .before .before .before .before .args .bytes .now) (c .before .loop .cursor) (nth (records (c .before .before .before .before .before .before .args .bytes .now)) (c .before .loop .i))
+here c =
+    let l = c .before .loop in
+    let s = c .before .before .before .before .before in
+    let a = s .before in
+    goes-on (a .args .bytes .now) (a .args .n) (a .pre .0) (small s) (l .i) (c .loop-test .taken) (l .cursor) (l .inv .1)
+
+room : (c : tie.In-loop Inv-loop μ-loop) → c .before .loop .cursor + (4 + connectionSize) ≤ length (c .before .before .before .before .before .before .args .bytes .now)
 room c =
     let l = c .before .loop in
-    let a = c .before .before .before .before .before .before in
-    cursor-room (a .args .bytes .now) (a .args .n) (a .pre .0) (l .i) (c .loop-test .taken) (l .cursor) (l .inv .1)
+    let s = c .before .before .before .before .before in
+    let a = s .before in
+    cursor-room (a .args .bytes .now) (a .args .n) (a .pre .0) (small s) (l .i) (c .loop-test .taken) (l .cursor) (l .inv .1)
+
+-- it is one of the records
+inside : (c : tie.In-loop Inv-loop μ-loop) → c .before .loop .i < length (records (c .before .before .before .before .before .before .args .bytes .now))
+inside c =
+    let s = c .before .before .before .before .before in
+    let a = s .before in
+    omega (arith, connections-long (a .args .bytes .now) (a .args .n) (a .pre .0) (small s), c .loop-test .taken)
 
 connection-at-requires : tie.Need-connection-at-requires Inv-loop μ-loop
 connection-at-requires c κs = room c
 
 -- its connection, with sound numbers, and its handle
 connection-read : (c : tie.After-connection-at Inv-loop μ-loop)
-    → c .connection-at .result ≡ connectionIn (pieceAt (c .before .before .before .before .before .before .before .args .bytes .now) (c .before .before .loop .i))
-connection-read c =
-    let l = c .before .before .loop in
-    c .connection-at .ensures ∙ ap connectionIn (record-at (c .before .before .before .before .before .before .before .args .bytes .now) (l .i) (l .cursor) (l .inv .1))
+    → c .connection-at .result ≡ connectionIn (nth (records (c .before .before .before .before .before .before .before .args .bytes .now)) (c .before .before .loop .i))
+connection-read c = c .connection-at .ensures _ (here (c .before))
 
 numbers-read : (c : tie.After-connection-at Inv-loop μ-loop) → Numbers (c .connection-at .result)
 numbers-read c =
     let l = c .before .before .loop in
     let a = c .before .before .before .before .before .before .before in
-    turn-numbers (a .args .bytes .now) (a .args .n) (l .i) (c .before .loop-test .taken) (a .pre .1) (c .connection-at .result) (connection-read c)
+    turn-numbers (records (a .args .bytes .now)) (l .i) (inside (c .before)) (a .pre .1) (c .connection-at .result) (connection-read c)
 
 -- the tree so far is one
 treed : (c : tie.After-connection-at Inv-loop μ-loop) → IsTree (c .before .before .loop .s .tree .bytes)
 treed c =
     let l = c .before .before .loop in
-    taken-tree (c .before .before .before .before .before .before .before .args .bytes .now) (l .i) (l .s .connections) (l .s .tree .bytes) (l .inv .2)
+    taken-tree (records (c .before .before .before .before .before .before .before .args .bytes .now)) (l .i) (l .s .connections) (l .s .tree .bytes) (l .inv .2)
 
 handle-read : (c : tie.After-handle-at Inv-loop μ-loop)
-    → c .handle-at .result ≡ handleIn (pieceAt (c .before .before .before .before .before .before .before .before .before .before .before .before .before .before .before .before .args .bytes .now) (c .before .before .before .before .before .before .before .before .before .before .before .loop .i))
-handle-read c =
-    let r = c .before .before .before .before .before .before .before .before .before in
-    let l = r .before .before .loop in
-    c .handle-at .ensures ∙ ap handleIn (record-at (r .before .before .before .before .before .before .before .args .bytes .now) (l .i) (l .cursor) (l .inv .1))
+    → c .handle-at .result ≡ handleIn (nth (records (c .before .before .before .before .before .before .before .before .before .before .before .before .before .before .before .before .args .bytes .now)) (c .before .before .before .before .before .before .before .before .before .before .before .loop .i))
+handle-read c = c .handle-at .ensures _ (here (c .before .before .before .before .before .before .before .before .before .before))
 
-handle-small : (c : tie.After-handle-at Inv-loop μ-loop) → c .handle-at .result < 64
+handle-small : (c : tie.After-handle-at Inv-loop μ-loop) → c .handle-at .result < handles
 handle-small c =
     let r = c .before .before .before .before .before .before .before .before .before in
     let l = r .before .before .loop in
     let a = r .before .before .before .before .before .before .before in
-    rw (handle-read c) (turn-handle (a .args .bytes .now) (a .args .n) (l .i) (r .before .loop-test .taken) (a .pre .1) (r .connection-at .result) (connection-read r))
+    rw (handle-read c) (turn-handle (records (a .args .bytes .now)) (l .i) (inside (r .before)) (a .pre .1) (r .connection-at .result) (connection-read r))
 
 cast-k : tie.Need-cast-k Inv-loop μ-loop
 cast-k c = search needs
@@ -117,7 +139,10 @@ next-requires-2 : tie.Need-next-requires-2 Inv-loop μ-loop
 next-requires-2 c κs = omega (arith, room (c .before .before .before .before .before .before .before .before .before .before))
 
 add-i : tie.Need-add-i Inv-loop μ-loop
-add-i c = search needs
+add-i c =
+    let r = c .before .before .before .before .before .before .before .before .before .before in
+    let a = r .before .before .before .before .before .before .before in
+    omega (arith, r .before .loop-test .taken, framed-exactly (a .args .bytes .now) (a .args .n) (a .pre .0) .most)
 
 loop-less : tie.Need-loop-less Inv-loop μ-loop
 loop-less c = search needs
@@ -129,10 +154,11 @@ loop-again c =
     let f = s .before .before .before in
     let r = f .before .before .before .before .before in
     let l = r .before .before .loop in
-    let a = r .before .before .before .before .before .before .before in (
+    let b = r .before .before .before .before .before .before in
+    let a = b .before in (
       omega arith,
-      cursor-next (a .args .bytes .now) (a .args .n) (a .pre .0) (l .i) (r .before .loop-test .taken) (l .cursor) (l .inv .1) (c .next2 .result) (c .next2 .ensures),
-      turn-takes (a .args .bytes .now) (a .args .n) (l .i) (r .before .loop-test .taken) (a .pre .1) (r .connection-at .result) (connection-read r)
+      cursor-next (a .args .bytes .now) (a .args .n) (a .pre .0) (small b) (l .i) (r .before .loop-test .taken) (l .cursor) (l .inv .1) (c .next2 .result) (c .next2 .ensures),
+      turn-takes (records (a .args .bytes .now)) (l .i) (inside (r .before)) (a .pre .1) (r .connection-at .result) (connection-read r)
           (l .s .connections) (l .s .tree .bytes) (l .inv .2) (s .set-run .last .0) (h .handle-at .result) (handle-read h)
           (λ g e. sym (not-false (f .run-free .result) (s .before .before .if1 .left)) ∙ f .run-free .ensures g e) (s .set-run .ensures),
       l .inv .3,
@@ -141,8 +167,9 @@ loop-again c =
 returns : tie.Need-returns Inv-loop μ-loop
 returns c =
     let l = c .before .loop in
-    let a = c .before .before .before .before .before .before .args in
-    restores-all (a .bytes .now) (a .n) (l .i) (l .s .connections) (l .s .tree .bytes) (l .inv .2) _ refl refl (l .inv .1) (omega arith) (l .inv .3)
+    let b = c .before .before .before .before .before in
+    let a = b .before in
+    restores-all (a .args .bytes .now) (l .i) (l .s .connections) (l .s .tree .bytes) (l .inv .2) _ refl refl (l .inv .1) (omega (arith, connections-long (a .args .bytes .now) (a .args .n) (a .pre .0) (small b))) (l .inv .3)
 
 returns-2 : tie.Need-returns-2 Inv-loop μ-loop
 returns-2 c =
@@ -150,8 +177,8 @@ returns-2 c =
     let r = f .before .before .before .before .before in
     let l = r .before .before .loop in
     let a = r .before .before .before .before .before .before .before in
-    restores-not (a .args .bytes .now) (a .args .n) (l .i) (l .s .connections) (l .s .tree .bytes) (l .inv .2) _ refl refl (l .inv .1) (r .before .loop-test .taken) (a .pre .1) refl
-    (turn-clash (a .args .bytes .now) (a .args .n) (l .i) (r .before .loop-test .taken) (a .pre .1) (r .connection-at .result) (connection-read r)
+    restores-not (a .args .bytes .now) (l .i) (l .s .connections) (l .s .tree .bytes) (l .inv .2) _ refl refl (l .inv .1) (inside (r .before)) (a .pre .1) refl
+    (turn-clash (records (a .args .bytes .now)) (l .i) (inside (r .before)) (a .pre .1) (r .connection-at .result) (connection-read r)
     (l .s .connections) (l .s .tree .bytes) (l .inv .2) (λ g e. sym (not-true (f .run-free .result) (c .if1 .taken)) ∙ f .run-free .ensures g e))
 
 pub restore-spec : {M : Type 1} → statement M

@@ -3,7 +3,7 @@ use borrow.Author.Needs.{needs}
 use Prim.Native.Nat.{ℕ, _<_}
 use native.Mathlib.Omega.{arith}
 use lib.Pow.{pow-pos}
-use Rattle.blocks.specs.Joined.{Joined}
+use Rattle.blocks.specs.Children.{OrOfChildren}
 use Rattle.blocks.proofs.TreeLaws.{tree-sized, tree-joined}
 use Rattle.tree.proofs.Bits.{node-lt, node-room}
 use Rattle.tree.proofs.JoinLaws.{below-missing, class-written}
@@ -29,7 +29,7 @@ join-above-requires c κs =
     let n = c .before .before .before .node in
     let a = c .before .before .before .before in
     let f = a .pre .2 .0 in
-    let joined : (b : ℕ) → 0 < b → b < 512 → Joined (a .args .tree .now) b = rw (a .pre .2 .1) (tree-joined f) in (
+    let joined : (b : ℕ) → 0 < b → b < 512 → OrOfChildren (a .args .tree .now) b = rw (a .pre .2 .1) (tree-joined f) in (
       omega (arith, n .ensures, pow-pos (a .args .k)),
       rw (n .ensures) (node-lt (a .args .k) (a .args .r) (a .pre .0)),
       w .ensures .sized,

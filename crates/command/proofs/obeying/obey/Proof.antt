@@ -1,7 +1,7 @@
 -- `command::obey` meets its contract: each command makes its call.
 use borrow.Author.Needs.{needs}
 use mathlib.Core.Path.{refl}
-use Rattle.rules.specs.Program.{obey}
+use Rattle.rules.specs.Obey.{obey}
 use Rattle.command.proofs.Commanded.{obeyed-as}
 use Rattle.command.proofs.obeying.obey.Statement.{statement}
 use Rattle.command.proofs.obeying.obey.Tie as tie

@@ -5,6 +5,7 @@ use mathlib.Core.Bool.{Bool, _&&_}
 use Prim.Native.Nat.{_+_, _-_, _≤_}
 use native.Mathlib.Omega.{arith}
 use lib.ListN.{take, drop}
+use Rattle.rules.specs.TreeBytes.{treeBytes}
 use Rattle.rules.specs.Bytes.{same}
 use Rattle.basics.proofs.BoolLaws.{and-assoc, and-true}
 use Rattle.image.proofs.Ends.{ends-start, ends-turn, ends-all}
@@ -12,10 +13,10 @@ use Rattle.image.proofs.loading.ends_with.Statement.{statement}
 use Rattle.image.proofs.loading.ends_with.Tie as tie
 
 abbrev Inv-loop : tie.InvT-loop
-Inv-loop bytes at tree equal₀ i₀ equal i = (i ≤ 128) × (same (take 128 (drop at bytes)) tree ≡ (equal && same (drop (at + i) bytes) (drop i tree)))
+Inv-loop bytes at tree equal₀ i₀ equal i = (i ≤ treeBytes) × (same (take treeBytes (drop at bytes)) tree ≡ (equal && same (drop (at + i) bytes) (drop i tree)))
 
 abbrev μ-loop : tie.MeasureT-loop
-μ-loop bytes at tree equal₀ i₀ equal i = 128 - i
+μ-loop bytes at tree equal₀ i₀ equal i = treeBytes - i
 
 loop-holds : tie.Need-loop-holds Inv-loop μ-loop
 loop-holds c = (search needs, ends-start (c .args .bytes .now) (c .args .tree .now) (c .args .at) (c .pre .0) (c .pre .1))

@@ -1,12 +1,16 @@
 -- `image::load` meets its contract: each exit is one check, after those before it.
 use borrow.Author.Needs.{needs}
-use mathlib.Core.Path.{_≡_, refl, sym, _∙_}
-use Prim.Native.Nat.{_+_, _*_}
+use mathlib.Core.Path.{_≡_, refl, sym, _∙_, subst}
+use Prim.Native.Nat.{_+_}
 use native.Mathlib.Omega.{arith}
 use borrow.Author.Tests.{not-true, not-false}
-use Rattle.rules.specs.LoadSteps.{FramedAt}
+use lib.ListN.{length}
+use Rattle.rules.specs.declared.Frame.{Frame}
+use Rattle.rules.specs.TreeBytes.{treeBytes}
+use Rattle.rules.specs.Framing.{Framed}
+use Rattle.frame.specs.Promises.{ofFrame, Frames}
 use Rattle.basics.proofs.BytesLaws.{AllBytes}
-use Rattle.image.proofs.Loads.{unframed, framed-at, unsound, owned-twice, tree-long, tree-place, differs, accepted}
+use Rattle.image.proofs.Loads.{unframed, unsound, owned-twice, tree-long, tree-last, differs, accepted}
 use Rattle.image.proofs.loading.load.Statement.{statement}
 use Rattle.image.proofs.loading.load.Tie as tie
 
@@ -15,11 +19,8 @@ small : (c : tie.After-shared-slice-known) → AllBytes (c .before .args .bytes 
 small c i = omega (arith, c .shared-slice-known .given i)
 
 -- check 9 is passed
-whole : (c : tie.After-frame) → FramedAt (c .before .before .before .before .args .bytes .now) (c .frame .given .0 .0)
-whole c =
-    let f = c .before .before in
-    let a = f .before .before in
-    framed-at (a .args .s) (a .pre) (a .args .bytes .now) (small (f .before)) (c .frame .given .0 .0) (f .framed .result) (c .frame .given .1) (f .framed .ensures)
+whole : (c : tie.After-frame) → Framed (c .before .before .before .before .args .bytes .now) (c .frame .given .0 .0)
+whole c = subst (λ (x : Frame). Frames (c .before .before .before .before .args .bytes .now) (ofFrame x)) (c .frame .given .1) (c .before .before .framed .ensures)
 
 framed-requires : tie.Need-framed-requires
 framed-requires c κs = search needs
@@ -34,7 +35,8 @@ returns : tie.Need-returns
 returns c =
     let f = c .before .before in
     let a = f .before .before in
-    unframed (a .args .s) (a .pre) (a .args .bytes .now) (small (f .before)) _ refl (f .framed .result) (c .enum-told .given .1) (f .framed .ensures)
+    let wrong = subst (λ (x : Frame). Frames (a .args .bytes .now) (ofFrame x)) (c .enum-told .given .1) (f .framed .ensures) in
+    unframed (a .args .s) (a .pre) (a .args .bytes .now) (small (f .before)) _ refl (wrong .1)
 
 cast-count : tie.Need-cast-count
 cast-count c = search needs
@@ -62,16 +64,16 @@ returns-3 c =
     owned-twice (a .args .s) (a .pre) (a .args .bytes .now) (small (k .before .before .before)) (k .frame .given .0 .0) (whole k) (sym (sound .before .records-sound .ensures) ∙ not-false _ (sound .if1 .left)) (new .restore .result) (new .restore .ensures) _ refl (not-true _ (c .if2 .taken))
 
 -- where the tree's bytes are
-place : (c : tie.Else2) → c .before .restore .result .end + 4 ≡ 10 + 18 * c .before .before .before .before .before .frame .given .0 .0
+place : (c : tie.Else2) → c .before .restore .result .end + 4 + treeBytes ≡ length (c .before .before .before .before .before .before .before .before .before .args .bytes .now)
 place c =
     let new = c .before in
     let sound = new .before in
     let k = c .before .before .before .before .before in
     let a = k .before .before .before .before in
-    tree-place (a .args .s) (a .pre) (a .args .bytes .now) (small (k .before .before .before)) (k .frame .given .0 .0) (whole k) (sym (sound .before .records-sound .ensures) ∙ not-false _ (sound .if1 .left)) (new .restore .result) (new .restore .ensures) (not-false _ (c .if2 .left))
+    tree-last (a .args .s) (a .pre) (a .args .bytes .now) (small (k .before .before .before)) (k .frame .given .0 .0) (whole k) (sym (sound .before .records-sound .ensures) ∙ not-false _ (sound .if1 .left)) (new .restore .result) (new .restore .ensures) (not-false _ (c .if2 .left))
 
 add-ends-with : tie.Need-add-ends-with
-add-ends-with c = omega (arith, place c, whole (c .before .before .before .before .before) .most)
+add-ends-with c = omega (arith, place c)
 
 ends-with-requires : tie.Need-ends-with-requires
 ends-with-requires c κs =
@@ -79,7 +81,7 @@ ends-with-requires c κs =
     let sound = new .before in
     let k = c .before .before .before .before .before .before .before in
     let a = k .before .before .before .before in
-    (omega (arith, whole k .long, place (c .before .before)), tree-long (a .args .s) (a .pre) (a .args .bytes .now) (small (k .before .before .before)) (k .frame .given .0 .0) (whole k) (sym (sound .before .records-sound .ensures) ∙ not-false _ (sound .if1 .left)) (new .restore .result) (new .restore .ensures) (not-false _ (c .before .before .if2 .left)))
+    (place (c .before .before), tree-long (a .args .s) (a .pre) (a .args .bytes .now) (small (k .before .before .before)) (k .frame .given .0 .0) (whole k) (sym (sound .before .records-sound .ensures) ∙ not-false _ (sound .if1 .left)) (new .restore .result) (new .restore .ensures) (not-false _ (c .before .before .if2 .left)))
 
 returns-4 : tie.Need-returns-4
 returns-4 c =

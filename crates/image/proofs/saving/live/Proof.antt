@@ -8,20 +8,21 @@ use native.Mathlib.Omega.{arith}
 use lib.ListN.{length, take}
 use lib.Seq.{take-all}
 use Rattle.rules.specs.declared.Connection.{Connection}
-use Rattle.rules.specs.Image.{connectionPieces}
-use Rattle.images.proofs.SaveLaws.{count-live, count-dead, count-room}
-use Rattle.images.proofs.ImageLaws.{connections-count, count-most}
+use Rattle.rules.specs.Ownership.{handles}
+use Rattle.rules.specs.Handles.{eachLive}
+use Rattle.rules.specs.Image.{connectionPiece, connectionPieces}
+use Rattle.calls.proofs.EachLaws.{count-most, each-count, count-live, count-dead, count-room}
 use Rattle.image.proofs.saving.live.Statement.{statement}
 use Rattle.image.proofs.saving.live.Tie as tie
 
 abbrev Inv-loop : tie.InvT-loop
-Inv-loop connections n₀ h₀ n h = (h ≤ 64) × (n ≡ length (connectionPieces 0 (take h connections)))
+Inv-loop connections n₀ h₀ n h = (h ≤ handles) × (n ≡ length (connectionPieces 0 (take h connections)))
 
 abbrev μ-loop : tie.MeasureT-loop
-μ-loop connections n₀ h₀ n h = 64 - h
+μ-loop connections n₀ h₀ n h = handles - h
 
 loop-holds : tie.Need-loop-holds Inv-loop μ-loop
-unfolding connectionPieces
+unfolding eachLive
 loop-holds c = (search needs, refl)
 
 mul-if1 : tie.Need-mul-if1 Inv-loop μ-loop
@@ -34,7 +35,7 @@ add-n : tie.Need-add-n Inv-loop μ-loop
 add-n c =
     let l = c .before .before .loop in
     let a = c .before .before .before in
-    omega (arith, count-room (a .args .t1) (l .h) (omega (arith, a .pre)) (c .if1 .taken), a .pre, connections-count 0 (a .args .t1), count-most (a .args .t1))
+    omega (arith, count-room connectionPiece (a .args .t1) (l .h) (omega (arith, a .pre)) (c .if1 .taken), a .pre, each-count connectionPiece 0 (a .args .t1), count-most (a .args .t1))
 
 add-h : tie.Need-add-h Inv-loop μ-loop
 add-h c = search needs
@@ -50,8 +51,8 @@ loop-again c =
     let here : l .h < length cs = omega (arith, a .pre) in (
       omega arith,
       ⊎-elim
-          (λ w. w .1 ∙ omega (arith, count-live cs (l .h) here (w .0 .taken)))
-          (λ w. w .1 ∙ l .inv .1 ∙ sym (count-dead cs (l .h) here (w .0 .left)))
+          (λ w. w .1 ∙ omega (arith, count-live connectionPiece cs (l .h) here (w .0 .taken)))
+          (λ w. w .1 ∙ l .inv .1 ∙ sym (count-dead connectionPiece cs (l .h) here (w .0 .left)))
           (c .if1 .came),
     )
 

@@ -6,20 +6,22 @@ use Prim.Native.Nat.{_+_, _*_, _-_, _≤_, _<_}
 use native.Mathlib.Omega.{arith}
 use lib.ListN.{length, take}
 use lib.Seq.{sets, take-all, length-sets}
-use Rattle.rules.specs.Image.{joined, connectionPieces}
-use Rattle.images.proofs.SaveLaws.{count-room}
-use Rattle.image.proofs.Puts.{live-put, dead-put}
+use Rattle.rules.specs.Ownership.{handles}
+use Rattle.rules.specs.Handles.{eachLive}
+use Rattle.rules.specs.Records.{joined}
+use Rattle.rules.specs.Image.{connectionPieces}
+use Rattle.image.proofs.Puts.{live-room, live-put, dead-put}
 use Rattle.image.proofs.saving.put_connections.Statement.{statement}
 use Rattle.image.proofs.saving.put_connections.Tie as tie
 
 abbrev Inv-loop : tie.InvT-loop
-Inv-loop buffer₀ at connections next₀ h₀ buffer next h = (h ≤ 64) × (buffer ≡ sets buffer₀ at (joined (connectionPieces 0 (take h connections)))) × (next ≡ at + 18 * length (connectionPieces 0 (take h connections))) × (length buffer ≡ length buffer₀)
+Inv-loop buffer₀ at connections next₀ h₀ buffer next h = (h ≤ handles) × (buffer ≡ sets buffer₀ at (joined (connectionPieces 0 (take h connections)))) × (next ≡ at + length (joined (connectionPieces 0 (take h connections)))) × (length buffer ≡ length buffer₀)
 
 abbrev μ-loop : tie.MeasureT-loop
-μ-loop buffer₀ at connections next₀ h₀ buffer next h = 64 - h
+μ-loop buffer₀ at connections next₀ h₀ buffer next h = handles - h
 
 loop-holds : tie.Need-loop-holds Inv-loop μ-loop
-unfolding joined connectionPieces
+unfolding joined eachLive
 loop-holds c = (search needs, refl, omega arith, refl)
 
 mul-if1 : tie.Need-mul-if1 Inv-loop μ-loop
@@ -38,7 +40,7 @@ put-connection-requires : tie.Need-put-connection-requires Inv-loop μ-loop
 put-connection-requires c κs =
     let l = c .before .before .before .before .loop in
     let a = c .before .before .before .before .before .before in
-    let room = count-room (a .args .t3) (l .h) (omega (arith, a .pre .0)) (c .before .before .if1 .taken) in
+    let room = live-room (a .args .t3) (l .h) (omega (arith, a .pre .0)) (c .before .before .if1 .taken) in
     (omega (arith, room, a .pre .1, l .inv .2, l .inv .3), omega arith)
 
 add-next : tie.Need-add-next Inv-loop μ-loop
@@ -46,7 +48,7 @@ add-next c =
     let then = c .before .before .before .before .before in
     let l = then .before .before .loop in
     let a = then .before .before .before .before in
-    let room = count-room (a .args .t3) (l .h) (omega (arith, a .pre .0)) (then .if1 .taken) in
+    let room = live-room (a .args .t3) (l .h) (omega (arith, a .pre .0)) (then .if1 .taken) in
     omega (arith, room, a .pre .1, l .inv .2)
 
 add-h : tie.Need-add-h Inv-loop μ-loop

@@ -6,16 +6,18 @@ use Prim.Native.Nat.{ℕ, _+_, _-_, _≤_}
 use native.Mathlib.Omega.{arith}
 use lib.ListN.{length, take, length-set}
 use lib.Seq.{sets, take-all, length-sets}
+use Rattle.rules.specs.TreeBytes.{treeBytes}
 use Rattle.rules.specs.Bytes.{little}
+use Rattle.rules.specs.Form.{treeKind, treeSize}
 use Rattle.image.proofs.Puts.{tree-turn, tree-put}
 use Rattle.image.proofs.saving.put_tree.Statement.{statement}
 use Rattle.image.proofs.saving.put_tree.Tie as tie
 
 abbrev Inv-loop : tie.InvT-loop
-Inv-loop buffer₀ at tree i₀ buffer i = (i ≤ 128) × (buffer ≡ sets buffer₀ (at + 4) (take i tree)) × (length buffer ≡ length buffer₀)
+Inv-loop buffer₀ at tree i₀ buffer i = (i ≤ treeBytes) × (buffer ≡ sets buffer₀ (at + 4) (take i tree)) × (length buffer ≡ length buffer₀)
 
 abbrev μ-loop : tie.MeasureT-loop
-μ-loop buffer₀ at tree i₀ buffer i = 128 - i
+μ-loop buffer₀ at tree i₀ buffer i = treeBytes - i
 
 put-header-requires : tie.Need-put-header-requires Inv-loop μ-loop
 put-header-requires c κs = search needs
@@ -53,7 +55,7 @@ same-length : tie.Need-same-length Inv-loop μ-loop
 same-length c =
     let header = c .before .before .before .before in
     let a = header .before .before .before .args in
-    c .before .loop .inv .2 ∙ ap length (header .put-header .ensures) ∙ length-sets (a .buffer .now) (a .at) (little 2 128 ++ little 2 3)
+    c .before .loop .inv .2 ∙ ap length (header .put-header .ensures) ∙ length-sets (a .buffer .now) (a .at) (little 2 treeSize ++ little 2 treeKind)
 
 returns : tie.Need-returns Inv-loop μ-loop
 returns c =

@@ -1,8 +1,9 @@
 -- `line::put_admission` meets its contract: placed, or refused.
 use borrow.Author.Needs.{needs}
 use mathlib.Core.Path.{sym, ap}
+use native.Mathlib.Omega.{arith}
 use Rattle.rules.specs.Answers.{ofAdmission}
-use Rattle.line.proofs.Lines.{answer-as}
+use Rattle.line.proofs.Lines.{words-as}
 use Rattle.line.proofs.answering.put_admission.Statement.{statement}
 use Rattle.line.proofs.answering.put_admission.Tie as tie
 
@@ -22,15 +23,13 @@ same-length : tie.Need-same-length
 same-length c = search needs
 
 returns : tie.Need-returns
-returns c =
-    answer-as (ap ofAdmission (sym (c .before .before .before .before .before .answer .given .1))) (c .before .before .put-placed .ensures)
+returns c = words-as (omega arith) (ap ofAdmission (sym (c .before .before .before .before .before .answer .given .1))) (c .before .before .put-placed .ensures)
 
 same-length-2 : tie.Need-same-length-2
 same-length-2 c = search needs
 
 returns-2 : tie.Need-returns-2
-returns-2 c =
-    answer-as (ap ofAdmission (sym (c .before .before .before .before .before .answer2 .given .1))) (c .before .before .put-refused .ensures)
+returns-2 c = words-as (omega arith) (ap ofAdmission (sym (c .before .before .before .before .before .answer2 .given .1))) (c .before .before .put-refused .ensures)
 
 pub put-admission-spec : {M : Type 1} → statement M
 put-admission-spec =

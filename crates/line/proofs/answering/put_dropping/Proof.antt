@@ -4,7 +4,8 @@ use mathlib.Core.Path.{sym, ap}
 use native.Mathlib.Omega.{arith}
 use Rattle.rules.specs.Answers.{ofDropping}
 use Rattle.rules.specs.Words.{wordsOf}
-use Rattle.line.proofs.Lines.{answer-as}
+use Rattle.text.proofs.Putting.{within-all}
+use Rattle.line.proofs.Lines.{words-as}
 use Rattle.line.proofs.answering.put_dropping.Statement.{statement}
 use Rattle.line.proofs.answering.put_dropping.Tie as tie
 
@@ -28,15 +29,13 @@ same-length c = search needs
 
 returns : tie.Need-returns
 unfolding wordsOf
-returns c =
-    answer-as (ap ofDropping (sym (c .before .before .before .before .before .enum-told .given .1))) (record { line = c .before .before .put-word .ensures; room = omega (arith, c .before .before .put-word .ensures .ends) })
+returns c = words-as (omega arith) (ap ofDropping (sym (c .before .before .before .before .before .enum-told .given .1))) (within-all (c .before .before .put-word .ensures))
 
 same-length-2 : tie.Need-same-length-2
 same-length-2 c = search needs
 
 returns-2 : tie.Need-returns-2
-returns-2 c =
-    answer-as (ap ofDropping (sym (c .before .before .before .before .before .answer .given .1))) (c .before .before .put-refused .ensures)
+returns-2 c = words-as (omega arith) (ap ofDropping (sym (c .before .before .before .before .before .answer .given .1))) (c .before .before .put-refused .ensures)
 
 pub put-dropping-spec : {M : Type 1} → statement M
 put-dropping-spec =

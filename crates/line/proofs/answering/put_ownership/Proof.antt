@@ -4,21 +4,22 @@ use mathlib.Core.Path.{sym, ap}
 use native.Mathlib.Omega.{arith}
 use Rattle.rules.specs.Answers.{ofOwnership}
 use Rattle.rules.specs.Words.{wordsOf}
-use Rattle.line.proofs.Lines.{answer-as}
+use Rattle.text.proofs.Putting.{within-all}
+use Rattle.line.proofs.Lines.{words-as}
 use Rattle.line.proofs.answering.put_ownership.Statement.{statement}
 use Rattle.line.proofs.answering.put_ownership.Tie as tie
 
 enum-known-answer : tie.Need-enum-known-answer
 enum-known-answer c = search needs
 
-slice-aggregate-put-with : tie.Need-slice-aggregate-put-with
-slice-aggregate-put-with c = search needs
+slice-aggregate-put-count : tie.Need-slice-aggregate-put-count
+slice-aggregate-put-count c = search needs
 
-cast-put-with : tie.Need-cast-put-with
-cast-put-with c = search needs
+cast-put-count : tie.Need-cast-put-count
+cast-put-count c = search needs
 
-put-with-requires : tie.Need-put-with-requires
-put-with-requires c κs = search needs
+put-count-requires : tie.Need-put-count-requires
+put-count-requires c κs = search needs
 
 enum-told : tie.Need-enum-told
 enum-told c = search needs
@@ -34,25 +35,23 @@ same-length c = search needs
 
 returns : tie.Need-returns
 unfolding wordsOf
-returns c =
-    answer-as (ap ofOwnership (sym (c .before .before .before .before .before .before .answer .given .1))) (record { line = c .before .before .put-with .ensures .0; room = omega (arith, c .before .before .put-with .ensures .1) })
+returns c = words-as (omega arith) (ap ofOwnership (sym (c .before .before .before .before .before .before .answer .given .1))) (c .before .before .put-count .ensures)
 
 same-length-2 : tie.Need-same-length-2
 same-length-2 c = search needs
 
 returns-2 : tie.Need-returns-2
 unfolding wordsOf
-returns-2 c =
-    answer-as (ap ofOwnership (sym (c .before .before .before .before .before .enum-told .given .1))) (record { line = c .before .before .put-word .ensures; room = omega (arith, c .before .before .put-word .ensures .ends) })
+returns-2 c = words-as (omega arith) (ap ofOwnership (sym (c .before .before .before .before .before .enum-told .given .1))) (within-all (c .before .before .put-word .ensures))
 
 pub put-ownership-spec : {M : Type 1} → statement M
 put-ownership-spec =
     tie.close
     (tie.spec
     enum-known-answer
-    slice-aggregate-put-with
-    cast-put-with
-    put-with-requires
+    slice-aggregate-put-count
+    cast-put-count
+    put-count-requires
     enum-told
     slice-aggregate-put-word
     put-word-requires

@@ -1,97 +1,27 @@
--- `line::put_reply` meets its contract: each answer has its own.
+-- `line::put_reply` meets its contract: the words, and the end of the line.
 use borrow.Author.Needs.{needs}
-use mathlib.Core.Path.{sym, ap}
-use Rattle.rules.specs.Answers.{ofReply}
-use Rattle.line.proofs.Lines.{answer-as}
+use native.Mathlib.Omega.{arith}
+use Rattle.text.proofs.Putting.{puts-after}
 use Rattle.line.proofs.answering.put_reply.Statement.{statement}
 use Rattle.line.proofs.answering.put_reply.Tie as tie
 
-enum-known-reply : tie.Need-enum-known-reply
-enum-known-reply c = search needs
+put-words-requires : tie.Need-put-words-requires
+put-words-requires c κs = search needs
 
-put-admission-requires : tie.Need-put-admission-requires
-put-admission-requires c κs = search needs
+slice-aggregate-put-word : tie.Need-slice-aggregate-put-word
+slice-aggregate-put-word c = search needs
 
-enum-known-reply-2 : tie.Need-enum-known-reply-2
-enum-known-reply-2 c = search needs
-
-put-dropping-requires : tie.Need-put-dropping-requires
-put-dropping-requires c κs = search needs
-
-enum-known-reply-3 : tie.Need-enum-known-reply-3
-enum-known-reply-3 c = search needs
-
-put-reporting-requires : tie.Need-put-reporting-requires
-put-reporting-requires c κs = search needs
-
-enum-known-reply-4 : tie.Need-enum-known-reply-4
-enum-known-reply-4 c = search needs
-
-put-ownership-requires : tie.Need-put-ownership-requires
-put-ownership-requires c κs = search needs
-
-enum-known-reply-5 : tie.Need-enum-known-reply-5
-enum-known-reply-5 c = search needs
-
-put-distance-requires : tie.Need-put-distance-requires
-put-distance-requires c κs = search needs
+put-word-requires : tie.Need-put-word-requires
+put-word-requires c κs = search needs
 
 same-length : tie.Need-same-length
 same-length c = search needs
 
 returns : tie.Need-returns
 returns c =
-    answer-as (ap ofReply (sym (c .before .before .before .before .before .reply .given .1))) (c .before .before .put-admission .ensures)
-
-same-length-2 : tie.Need-same-length-2
-same-length-2 c = search needs
-
-returns-2 : tie.Need-returns-2
-returns-2 c =
-    answer-as (ap ofReply (sym (c .before .before .before .before .before .reply2 .given .1))) (c .before .before .put-dropping .ensures)
-
-same-length-3 : tie.Need-same-length-3
-same-length-3 c = search needs
-
-returns-3 : tie.Need-returns-3
-returns-3 c =
-    answer-as (ap ofReply (sym (c .before .before .before .before .before .reply3 .given .1))) (c .before .before .put-reporting .ensures)
-
-same-length-4 : tie.Need-same-length-4
-same-length-4 c = search needs
-
-returns-4 : tie.Need-returns-4
-returns-4 c =
-    answer-as (ap ofReply (sym (c .before .before .before .before .before .reply4 .given .1))) (c .before .before .put-ownership .ensures)
-
-same-length-5 : tie.Need-same-length-5
-same-length-5 c = search needs
-
-returns-5 : tie.Need-returns-5
-returns-5 c =
-    answer-as (ap ofReply (sym (c .before .before .before .before .before .reply5 .given .1))) (c .before .before .put-distance .ensures)
+    let p = c .before .before .before .before .before .before .before .put-words .ensures in
+    let q = c .before .before .put-word .ensures in
+    record { line = puts-after (p .puts) q; room = omega (arith, p .room, q .ends) }
 
 pub put-reply-spec : {M : Type 1} → statement M
-put-reply-spec =
-    tie.close
-    (tie.spec
-    enum-known-reply
-    put-admission-requires
-    enum-known-reply-2
-    put-dropping-requires
-    enum-known-reply-3
-    put-reporting-requires
-    enum-known-reply-4
-    put-ownership-requires
-    enum-known-reply-5
-    put-distance-requires
-    same-length
-    returns
-    same-length-2
-    returns-2
-    same-length-3
-    returns-3
-    same-length-4
-    returns-4
-    same-length-5
-    returns-5)
+put-reply-spec = tie.close (tie.spec put-words-requires slice-aggregate-put-word put-word-requires same-length returns)

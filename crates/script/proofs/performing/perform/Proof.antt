@@ -6,7 +6,8 @@ use lib.ListN.{take}
 use lib.Seq.{length-take-le}
 use Rattle.script.proofs.Printing.{within-as}
 use Rattle.script.specs.Performing.{savedLine, performed}
-use Rattle.script.proofs.Acting.{asked, inside, acts-command, acts-fresh, acts-image, acts-save, acts-load, acts-state, acts-bad}
+use Rattle.order.proofs.Asked.{asked, inside}
+use Rattle.script.proofs.Acting.{acts-command, acts-fresh, acts-image, acts-save, acts-load, acts-state, acts-bad}
 use Rattle.script.proofs.performing.perform.Statement.{statement}
 use Rattle.script.proofs.performing.perform.Tie as tie
 

@@ -3,7 +3,7 @@ use borrow.Author.Needs.{needs}
 use mathlib.Core.Path.{refl, _∙_}
 use native.Mathlib.Omega.{arith}
 use Rattle.text.proofs.Putting.{puts-after, puts-length}
-use Rattle.script.proofs.HexLaws.{hex-length}
+use Rattle.hex.proofs.HexLaws.{hex-length}
 use Rattle.script.proofs.Printing.{no-words, buffer-words}
 use Rattle.script.proofs.performing.put_buffer.Statement.{statement}
 use Rattle.script.proofs.performing.put_buffer.Tie as tie

@@ -1,0 +1,3 @@
+-- Hexadecimal, written and read back.
+pub mod HexLaws
+pub mod HexReading

@@ -1,0 +1,3 @@
+-- Hexadecimal, and what writing and reading it promises.
+pub mod Hex
+pub mod Promises

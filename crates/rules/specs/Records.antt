@@ -1,0 +1,43 @@
+-- Records one after the other: how they are written, where each begins, and how they are read.
+use Prim.Native.Nat.{ℕ, zero, suc, _+_}
+use mathlib.Core.List.{List, [], _∷_, _++_}
+use lib.ListN.{length, getD, take, drop}
+use Rattle.rules.specs.Bytes.{little, littleNumber}
+
+-- "Records, all numbers little-endian: length of the payload (2 bytes), kind (2 bytes), payload."
+pub record Piece : Type 0 where
+  pub kind : ℕ
+  pub payload : List ℕ
+
+unfoldable pub written : Piece → List ℕ
+unfolding little
+written r = little 2 (length (r .payload)) ++ little 2 (r .kind) ++ r .payload
+
+unfoldable pub joined : List Piece → List ℕ
+unfolding written
+joined [] = []
+joined (r ∷ rs) = written r ++ joined rs
+
+-- Record i begins where the first i end.
+abbrev pub begin : List Piece → ℕ → ℕ
+begin rs i = length (joined (take i rs))
+
+-- Record i, from 0 on.
+abbrev pub nth : List Piece → ℕ → Piece
+nth rs i = getD rs i (record { kind = 0; payload = [] })
+
+-- The record that bytes begin with, by its length and kind, and the records after it; n bounds how many.
+unfoldable pub piecesIn : ℕ → List ℕ → List Piece
+unfolding littleNumber
+piecesIn zero bytes = []
+piecesIn (suc n) [] = []
+piecesIn (suc n) (b ∷ bs) =
+    let bytes = b ∷ bs in
+    let size = littleNumber (take 2 bytes) in
+    record { kind = littleNumber (take 2 (drop 2 bytes)); payload = take size (drop 4 bytes) }
+    ∷ piecesIn n (drop (4 + size) bytes)
+
+-- The records of the bytes.
+unfoldable pub piecesOf : List ℕ → List Piece
+unfolding piecesIn
+piecesOf bytes = piecesIn (length bytes) bytes
