@@ -21,7 +21,7 @@ use Rattle.rules.specs.Handles.{connection}
 use Rattle.basics.proofs.BoolLaws.{bool-iff, is-false}
 use Rattle.blocks.proofs.TreeLaws.{tree-ext}
 use Rattle.rules.specs.Sound.{Numbers, sound}
-use Rattle.blocks.proofs.SoundLaws.{Sound, sound-exactly, taken-at, taken-of, connected-good}
+use Rattle.blocks.proofs.SoundLaws.{Sound, sound-exactly, taken-at, taken-of, good-connections, connected-good}
 
 -- ---- nobody
 pub nobody-owns : (b : ℕ) → owns nobody b ≡ false
@@ -174,7 +174,7 @@ unfolding treeFor
 good-tree s good = good .hasTree
 
 pub good-sound : (s : Schedule) → Good s → Sound (s .connections)
-good-sound s good = sound-exactly (s .connections) .0 (good .isSound)
+good-sound s good = sound-exactly (s .connections) .0 (good-connections s good)
 
 module _ (s : Schedule) (good : Good s) (h : ℕ) (below : h ≤ 63) where
   pub inside : h < length (s .connections)

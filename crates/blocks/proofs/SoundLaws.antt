@@ -14,8 +14,8 @@ use Rattle.rules.specs.Below.{any}
 use Rattle.rules.specs.Time.{blockMicros, listBlocks}
 use Rattle.rules.specs.Ownership.{handles, largestK, factor, at, belongs, owns, taken, ownedTwice}
 use Rattle.rules.specs.Classes.{depth, free}
-use Rattle.rules.specs.Sound.{soundNumbers, Numbers, allSound, apart, sound}
-use Rattle.rules.specs.Good.{Good, scheduleOf, withConnections}
+use Rattle.rules.specs.Sound.{soundNumbers, Numbers, allSound, apart, soundConnections, sound}
+use Rattle.rules.specs.Good.{Good, withConnections}
 use Rattle.basics.proofs.BoolLaws.{bool-iff, both, is-false, not-true-is-false}
 use Rattle.basics.proofs.BelowLaws.{any-none, none-at}
 use Rattle.blocks.proofs.EndlessTime.{belongs-mod}
@@ -145,8 +145,8 @@ pub record Sound (cs : List Connection) : Type 0 where
   pub numbers : (h : ℕ) → at cs h .live ≡ true → Numbers (at cs h)
   pub apart-ever : (b h j : ℕ) → owns (at cs h) b ≡ true → owns (at cs j) b ≡ true → h ≡ j
 
-pub sound-exactly : (cs : List Connection) → (sound cs ≡ true) ↔ Sound cs
-unfolding sound apart
+pub sound-exactly : (cs : List Connection) → (soundConnections cs ≡ true) ↔ Sound cs
+unfolding soundConnections apart
 sound-exactly cs = (to, from)
   where
     to : allSound cs && not (any 512 (ownedTwice cs)) ≡ true → Sound cs
@@ -176,12 +176,12 @@ sound-exactly cs = (to, from)
         let q : w .0 ≡ w .1 = s .apart-ever b (w .0) (w .1) (w .3) (w .4) in
         omega arith)))
 
-pub sound-all : (cs : List Connection) → sound cs ≡ true → allSound cs ≡ true
-unfolding sound
+pub sound-all : (cs : List Connection) → soundConnections cs ≡ true → allSound cs ≡ true
+unfolding soundConnections
 sound-all cs e = both (allSound cs) (apart cs) e .0
 
 -- In a sound schedule a class is free exactly if none of its blocks, in endless time, belongs to a live connection.
-pub class-free-ever : (cs : List Connection) (k r : ℕ) → sound cs ≡ true → k ≤ depth → r < 2 ^ k
+pub class-free-ever : (cs : List Connection) (k r : ℕ) → soundConnections cs ≡ true → k ≤ depth → r < 2 ^ k
     → (free (taken cs) k r ≡ true) ↔ ((b h : ℕ) → b % 2 ^ k ≡ r → owns (at cs h) b ≡ false)
 class-free-ever cs k r s hk hr =
     let ever = free-ever (taken cs) k r hk hr (taken-periodic cs (sound-all cs s)) in (
@@ -189,11 +189,12 @@ class-free-ever cs k r s hk hr =
       λ none. ever .1 (λ b m. is-false (taken cs b) (λ t. let w = taken-at cs b t in false≢true (sym (none b (w .0) m) ∙ w .1))),
     )
 
--- A schedule with 64 sound connections and their tree is good.
-pub connected-good : (s : Schedule) (cs : List Connection) → length cs ≡ handles → sound cs ≡ true → Good (withConnections s cs)
-unfolding withConnections
-connected-good s cs l e = record { places = l; isSound = e; hasTree = refl }
+-- The connections of a good schedule are sound,
+pub good-connections : (s : Schedule) → Good s → soundConnections (s .connections) ≡ true
+unfolding sound
+good-connections s good = good .isSound
 
-pub scheduled-good : (cs : List Connection) → length cs ≡ handles → sound cs ≡ true → Good (scheduleOf cs)
-unfolding scheduleOf
-scheduled-good cs l e = record { places = l; isSound = e; hasTree = refl }
+-- and a schedule with 64 sound connections and their tree is good.
+pub connected-good : (s : Schedule) (cs : List Connection) → length cs ≡ handles → soundConnections cs ≡ true → Good (withConnections s cs)
+unfolding sound withConnections
+connected-good s cs l e = record { places = l; isSound = e; hasTree = refl }

@@ -18,7 +18,6 @@ use Rattle.rules.specs.Core.{isInterval, baseInterval, subratedInterval}
 use Rattle.rules.specs.Ownership.{largestK, at, belongs, subrating, owns, taken}
 use Rattle.rules.specs.Classes.{depth, runFree}
 use Rattle.rules.specs.Mirror.{mirrored}
-use Rattle.rules.specs.Sound.{sound}
 use Rattle.rules.specs.Good.{Good, FreeSlotsZero}
 use Rattle.rules.specs.Answers.{Outcome, refusing, ok}
 use Rattle.rules.specs.Refusals.{number}
@@ -28,8 +27,8 @@ use Rattle.basics.proofs.BoolLaws.{both, is-false}
 use Rattle.basics.proofs.BelowLaws.{every-at, every-of, largest-is-largest, largest-unique, least-some, least-none, least-is-none}
 use Rattle.blocks.proofs.EndlessTime.{minusMod-back}
 use Rattle.blocks.proofs.MirrorLaws.{mirror-lt, mirror-mirror}
-use Rattle.rules.specs.Sound.{Numbers}
-use Rattle.blocks.proofs.SoundLaws.{class-free-ever}
+use Rattle.rules.specs.Sound.{Numbers, soundConnections}
+use Rattle.blocks.proofs.SoundLaws.{class-free-ever, good-connections}
 use Rattle.blocks.proofs.ScheduleLaws.{others, others-at, set-good, set-zero, set-other, set-same, inside}
 use Rattle.calls.proofs.RefusalLaws.{decided-cases}
 use Rattle.blocks.proofs.ClassLaws.{within-depth}
@@ -99,7 +98,7 @@ share-fits f c F h l m = rw (ne-eqb f 0 (omega arith), le-ltb c f l, le-ltb F c 
 abbrev pub RunFreeEver : List Connection → ℕ → ℕ → ℕ → Type 0
 RunFreeEver cs k n A = (j : ℕ) → j < n → (b h : ℕ) → b % 2 ^ k ≡ (A + j) % 2 ^ k → owns (at cs h) b ≡ false
 
-pub open-ever : (cs : List Connection) (k n A : ℕ) → sound cs ≡ true → k ≤ depth → (isOpen (taken cs) k n A ≡ true) ↔ RunFreeEver cs k n A
+pub open-ever : (cs : List Connection) (k n A : ℕ) → soundConnections cs ≡ true → k ≤ depth → (isOpen (taken cs) k n A ≡ true) ↔ RunFreeEver cs k n A
 unfolding isOpen runFree
 open-ever cs k n A s hk = (
   λ e j l b h m. class-free-ever cs k ((A + j) % 2 ^ k) s hk (mod-lt (A + j) (pow-pos k)) .0 (every-at n _ e j l) b h m,
@@ -163,7 +162,7 @@ module _ (s : Schedule) (good : Good s) (h i f c : ℕ) (a : Admissible s h i f 
 
   pub anchor-free : RunFreeEver (s .connections) (kOf i) f (anchorFor s (kOf i) f)
   anchor-free =
-      open-ever (s .connections) (kOf i) f (anchorFor s (kOf i) f) (good .isSound) (within-depth (k-small i)) .0
+      open-ever (s .connections) (kOf i) f (anchorFor s (kOf i) f) (good-connections s good) (within-depth (k-small i)) .0
       (ap (isOpen (taken (s .connections)) (kOf i) f) anchor-given ∙ first-open (taken (s .connections)) (kOf i) f (a .place .0) (a .place .1) .1)
 
   pub new-numbers : Numbers (newConnection (kOf i) (anchorFor s (kOf i) f) f c)

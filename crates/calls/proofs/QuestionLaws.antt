@@ -27,7 +27,7 @@ use Rattle.rules.specs.Owner.{ownerOr, ownerOf}
 use Rattle.rules.specs.Anchor.{slotsToAnchor, anchorChecks, anchor}
 use Rattle.basics.proofs.BoolLaws.{is-false}
 use Rattle.basics.proofs.BelowLaws.{least-some, least-none, least-is, least-is-none}
-use Rattle.blocks.proofs.SoundLaws.{class-free-ever}
+use Rattle.blocks.proofs.SoundLaws.{class-free-ever, good-connections}
 use Rattle.blocks.proofs.EndlessTime.{minusMod-back, minusMod-only, anchors-subrated, factor-mod}
 use Rattle.blocks.proofs.ScheduleLaws.{good-sound, nobody-owns}
 use Rattle.calls.proofs.RefusalLaws.{FirstRefusal, decided-first, decided-passed}
@@ -82,7 +82,7 @@ module _ (s : Schedule) (good : Good s) (b : ℕ) where
   -- Where the block's own class, its leaf in the tree, is free, it is idle.
   pub owner-leaf : free (taken (s .connections)) depth (b % listBlocks) ≡ true → ownerOf s b ≡ idle
   owner-leaf e =
-      let ever = class-free-ever (s .connections) depth (b % listBlocks) (good .isSound) (omega arith) (mod-lt b (omega arith)) .0 e in
+      let ever = class-free-ever (s .connections) depth (b % listBlocks) (good-connections s good) (omega arith) (mod-lt b (omega arith)) .0 e in
       owner-none s b (λ j l. ever b j refl)
 
 -- ---- anchor

@@ -25,7 +25,7 @@ use Rattle.rules.specs.Report.{roomToGrow, metered, reportChecks, aim, reportAn
 use Rattle.basics.proofs.BoolLaws.{both, is-false}
 use Rattle.blocks.proofs.EndlessTime.{minusMod-back}
 use Rattle.rules.specs.Sound.{Numbers}
-use Rattle.blocks.proofs.SoundLaws.{class-free-ever}
+use Rattle.blocks.proofs.SoundLaws.{class-free-ever, good-connections}
 use Rattle.blocks.proofs.ScheduleLaws.{others, others-at, others-apart, inside, good-sound, set-good, set-zero, set-other, set-same}
 use Rattle.calls.proofs.MeterLaws.{moved-most, need-holds, target-bounds, target-enough, target-next, change-grown, change-cases, change-names}
 use Rattle.calls.proofs.AnswerLaws.{values}
@@ -69,7 +69,7 @@ report-cases s h sample P f g =
 pub room-ever : (s : Schedule) → Good s → (c : Connection) → c .k ≤ depth
     → (roomToGrow (taken (s .connections)) c ≡ true) ↔ ((b h : ℕ) → b % factor c ≡ (c .anchor + c .length) % factor c → owns (at (s .connections) h) b ≡ false)
 unfolding roomToGrow
-room-ever s good c hk = class-free-ever (s .connections) (c .k) ((c .anchor + c .length) % factor c) (good .isSound) hk (mod-lt (c .anchor + c .length) (pow-pos (c .k)))
+room-ever s good c hk = class-free-ever (s .connections) (c .k) ((c .anchor + c .length) % factor c) (good-connections s good) hk (mod-lt (c .anchor + c .length) (pow-pos (c .k)))
 
 module _ (s : Schedule) (good : Good s) (h sample : ℕ) (r : Reportable s h sample) where
   pub old-numbers : Numbers (connection s h)

@@ -21,6 +21,7 @@ use Rattle.calls.proofs.RefusalLaws.{FirstRefusal, refusing-exactly, de
 use Rattle.blocks.proofs.MirrorLaws.{mirror-mirror}
 use Rattle.calls.proofs.AdmitLaws.{RunFreeEver, k-small, open-ever, none-open, open-none, Admissible, admit-cases, anchor-given, anchor-small, anchor-free, first-open}
 use Rattle.blocks.proofs.ClassLaws.{within-depth}
+use Rattle.blocks.proofs.SoundLaws.{good-connections}
 
 -- The room check is reached, and no anchor below F has its whole run free in endless time.
 pub record NoRoom (s : Schedule) (h i f c : ℕ) : Type 0 where
@@ -37,12 +38,12 @@ nowhere (some p) e = absurd (false≢true e)
 module _ (s : Schedule) (good : Good s) (h i f c : ℕ) where
   shut-none : firstOpen (taken (s .connections)) (kOf i) f ≡ none → (A : ℕ) → A < 2 ^ kOf i → RunFreeEver (s .connections) (kOf i) f A → ⊥
   shut-none e A l r =
-      false≢true (sym (none-open (taken (s .connections)) (kOf i) f e A l) ∙ open-ever (s .connections) (kOf i) f A (good .isSound) (within-depth (k-small i)) .1 r)
+      false≢true (sym (none-open (taken (s .connections)) (kOf i) f e A l) ∙ open-ever (s .connections) (kOf i) f A (good-connections s good) (within-depth (k-small i)) .1 r)
 
   none-shut : ((A : ℕ) → A < 2 ^ kOf i → RunFreeEver (s .connections) (kOf i) f A → ⊥) → firstOpen (taken (s .connections)) (kOf i) f ≡ none
   none-shut x =
       open-none (taken (s .connections)) (kOf i) f (λ A l.
-      is-false (isOpen (taken (s .connections)) (kOf i) f A) (λ t. x A l (open-ever (s .connections) (kOf i) f A (good .isSound) (within-depth (k-small i)) .0 t)))
+      is-false (isOpen (taken (s .connections)) (kOf i) f A) (λ t. x A l (open-ever (s .connections) (kOf i) f A (good-connections s good) (within-depth (k-small i)) .0 t)))
 
   never : (n : ℕ) → admitDone s h (kOf i) f c .answer ≡ refused n → ⊥
   unfolding admitDone
@@ -107,4 +108,4 @@ anchor-first s good h i f c a A l m r =
     let w = first-open (taken (s .connections)) k f (a .place .0) (a .place .1) in
     let p : mirrored k (anchorFor s k f) ≡ a .place .0 = ap (mirrored k) (anchor-given s good h i f c a) ∙ mirror-mirror k (a .place .0) (w .0) in
     let q : isOpen (taken (s .connections)) k f A ≡ false = ap (isOpen (taken (s .connections)) k f) (sym (mirror-mirror k A l)) ∙ w .2 (mirrored k A) (omega arith) in
-    false≢true (sym q ∙ open-ever (s .connections) k f A (good .isSound) (within-depth (k-small i)) .1 r)
+    false≢true (sym q ∙ open-ever (s .connections) k f A (good-connections s good) (within-depth (k-small i)) .1 r)

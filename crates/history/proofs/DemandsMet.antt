@@ -65,7 +65,7 @@ module _ (S T : System) (among : (run : Run) → S run → T run) where
 pub saves-back : (S : System) → Demand1 S → Demand2 S → SavesBack S
 saves-back S one two run m save bytes n s p a q long =
     let form = two .restore run m bytes (one .takes .earlier (more run m) save s) p .0 (n, a) in
-    let e : image (m .result .schedule .connections) ≡ bytes .list = two .same run m bytes n (one .takes .earlier (more run m) save s) p a form in
+    let e : image (m .result .schedule) ≡ bytes .list = two .same run m bytes n (one .takes .earlier (more run m) save s) p a form in
     let w = two .saves (more run m) save s q (subst⁻¹ (λ (l : List ℕ). length l ≤ length (save .request .lent .buffer)) e long) in (
       w .0 ∙ ap (λ (l : List ℕ). saved (length l)) e,
       w .1 ∙ ap (λ (l : List ℕ). l ++ drop (length l) (save .request .lent .buffer)) e,

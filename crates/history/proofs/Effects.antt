@@ -42,7 +42,7 @@ pub data Effect (s : Schedule) (m : Made) (x : ℕ) : Type 0 where
       → isLive s x ≡ false → connection (m .result .schedule) x ≡ newConnection k A f c → Effect s m x
   ended : DropOf (m .request .call) x → m .result .answer ≡ dropped → connection (m .result .schedule) x ≡ nobody → Effect s m x
   replaced : (bytes : Bytes) → Restores m bytes → length (m .result .schedule .connections) ≡ handles
-      → sound (m .result .schedule .connections) ≡ true → IsImage (bytes .list) (m .result .schedule .connections) → Effect s m x
+      → sound (m .result .schedule .connections) ≡ true → IsImage (bytes .list) (m .result .schedule) → Effect s m x
 
 -- A call that can neither begin nor end x, whatever its answer.
 abbrev Other : ℕ → Call → Type 0

@@ -6,13 +6,11 @@ use Prim.Native.Nat.{ℕ}
 use native.Mathlib.Omega.{arith}
 use Rattle.rules.specs.declared.Schedule.{Schedule}
 use Rattle.rules.specs.declared.Connection.{Connection}
-use Rattle.rules.specs.Ownership.{handles, at}
-use Rattle.rules.specs.Good.{scheduleOf}
+use Rattle.rules.specs.Ownership.{handles}
 use Rattle.rules.specs.Handles.{connection, isLive}
 use Rattle.rules.specs.Report.{metered}
 use Rattle.rules.specs.Load.{load}
 use Rattle.calls.proofs.AdmitLaws.{admit-stored}
-use Rattle.blocks.proofs.SoundLaws.{scheduled-good}
 use Rattle.blocks.proofs.ScheduleLaws.{good-sound}
 use Rattle.images.proofs.ImageLaws.{at-free}
 use Rattle.images.proofs.RoundTrip.{round-connection}
@@ -83,11 +81,11 @@ begins-stands run m by x floor ceiling (admitted i p (F, A, L, a)) =
     let stored = admit-stored (now run) (now-good run (by .0)) x i floor ceiling F A L (sym (ap (λ (t : Result). t .answer) e) ∙ a) .3 in
     let c = ap (λ (t : Result). connection (t .schedule) x) e ∙ stored in
     rw c (record { live = refl; floored = refl; ceiled = refl })
-begins-stands run m by x floor ceiling (restored bytes (p, (n, a)) cs long isSound image live f c) =
-    let e : connection (m .result .schedule) x ≡ at cs x =
-    ap (λ (t : Result). connection (t .schedule) x) (result-is run m by (Load bytes) p)
+begins-stands run m by x floor ceiling (restored bytes (p, (n, a)) t long isSound image live f c) =
+    let e : connection (m .result .schedule) x ≡ connection t x =
+    ap (λ (r : Result). connection (r .schedule) x) (result-is run m by (Load bytes) p)
     ∙ ap (λ (list : List ℕ). connection (load (now run) list .schedule) x) image
-    ∙ round-connection (now run) (scheduleOf cs) (scheduled-good cs long isSound) x live in
+    ∙ round-connection (now run) t long isSound x live in
     rw e (record { live = live; floored = f; ceiled = c })
 
 -- and as long as nothing ends it.
@@ -142,7 +140,7 @@ goes-on run m x (moved quiet report l n e) live before = still run m x quiet (be
 goes-on run m x (begun i f c k A p a unused e) live before = begins-living run m x f c (admitted i p a)
 goes-on run m x (ended p a e) live before = absurd (false≢true (rw e at live))
 goes-on run m x (replaced bytes w long isSound image) live before =
-    begins-living run m x _ _ (restored bytes w (m .result .schedule .connections) long isSound image live refl refl)
+    begins-living run m x _ _ (restored bytes w (m .result .schedule) long isSound image live refl refl)
 
 -- Nobody is live at a start.
 start-free : (start : Start) (x : ℕ) → isLive (startOf start) x ≡ true → ⊥

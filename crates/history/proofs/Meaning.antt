@@ -110,7 +110,7 @@ restore run m bytes by p =
 saves : SavesImage (By ruled)
 unfolding ruledCall
 saves run m by p long =
-    let w = save-whole (now run) (m .request .lent .buffer) (image (now run .connections)) refl long in
+    let w = save-whole (now run) (m .request .lent .buffer) (image (now run)) refl long in
     let e = result-is run m by Save p in (
       ap (λ (t : Result). t .answer) e ∙ ap (λ (v : Written). v .answer) w,
       ap (λ (t : Result). t .lent .buffer) e ∙ ap (λ (v : Written). v .buffer) w,
@@ -120,7 +120,7 @@ same : SavesSame (By ruled)
 unfolding ruledCall
 same run m bytes n by p a form =
     let q = result-is run m by (Load bytes) p in
-    ap (λ (t : Result). image (t .schedule .connections)) q
+    ap (λ (t : Result). image (t .schedule)) q
     ∙ load-saves (now run) (bytes .list) n (bytes .small) (sym (ap (λ (t : Result). t .answer) q) ∙ a)
 
 pub meanings : Demand2 (By ruled)

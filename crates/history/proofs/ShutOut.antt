@@ -86,11 +86,10 @@ refuses-all-room step refuses room =
 -- and its image is that of a sound one.
 pub refuses-all-restore : (step : StepFunction) → RefusesAll step → RestoreExact (By step) → ⊥
 refuses-all-restore step refuses restore =
-    let cs = fresh .connections in
-    let bytes : Bytes = record { list = image cs; small = image-bytes cs } in
+    let bytes : Bytes = record { list = image fresh; small = image-bytes fresh } in
     let run = begun Fresh (startOf Fresh) in
     let no = refuses (startOf Fresh) (plain (Load bytes)) in
-    let yes = restore run (leaves step run (plain (Load bytes))) bytes (refl, refl) refl .1 (cs, fresh-is-good .places, fresh-is-good .isSound, refl) in
+    let yes = restore run (leaves step run (plain (Load bytes))) bytes (refl, refl) refl .1 (fresh, fresh-is-good .places, fresh-is-good .isSound, refl) in
     let e = no .1 in
     let f = yes .1 in
     let z : _≡_ {A = ℕ} 0 1 = cc in

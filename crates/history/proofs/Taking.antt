@@ -32,7 +32,9 @@ use Rattle.rules.specs.Owner.{ownerOr, ownerOf}
 use Rattle.rules.specs.Anchor.{slotsToAnchor, anchorChecks, anchor}
 use Rattle.rules.specs.Image.{image}
 use Rattle.rules.specs.Save.{Written, saveChecks, saveDone, save}
-use Rattle.rules.specs.Load.{countIn, piecesOf, loadChecks, loadDone, load}
+use Rattle.rules.specs.Records.{piecesOf}
+use Rattle.rules.specs.Framing.{countIn}
+use Rattle.rules.specs.Load.{loadChecks, loadDone, load}
 use Rattle.calls.proofs.RefusalLaws.{decided-cases, decided-map}
 use Rattle.calls.proofs.MeterLaws.{change-cases}
 use Rattle.calls.proofs.CallLaws.{admits, drops, reports, call-good}

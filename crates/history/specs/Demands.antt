@@ -110,23 +110,23 @@ RoomExact S =
 abbrev pub RestoreExact : System → Type 0
 RestoreExact S =
     (run : Run) (m : Made) (bytes : Bytes) → S (more run m) → RestoreOf (m .request .call) bytes
-    → ((n : ℕ) × (m .result .answer ≡ loaded n)) ↔ ((cs : List Connection) × (length cs ≡ handles) × (sound cs ≡ true) × IsImage (bytes .list) cs)
+    → ((n : ℕ) × (m .result .answer ≡ loaded n)) ↔ ((t : Schedule) × (length (t .connections) ≡ handles) × (sound (t .connections) ≡ true) × IsImage (bytes .list) t)
 
 -- "and saving that schedule gives the same bytes": a save with room writes the image of the schedule,
 abbrev pub SavesImage : System → Type 0
 SavesImage S =
-    (run : Run) (m : Made) → S (more run m) → m .request .call ≡ Save → length (image (now run .connections)) ≤ length (m .request .lent .buffer)
-    → (m .result .answer ≡ saved (length (image (now run .connections))))
-    × (m .result .lent .buffer ≡ image (now run .connections) ++ drop (length (image (now run .connections))) (m .request .lent .buffer))
+    (run : Run) (m : Made) → S (more run m) → m .request .call ≡ Save → length (image (now run)) ≤ length (m .request .lent .buffer)
+    → (m .result .answer ≡ saved (length (image (now run))))
+    × (m .result .lent .buffer ≡ image (now run) ++ drop (length (image (now run))) (m .request .lent .buffer))
 
 -- and that is what was restored, where that has the form in which images are saved: as every image has today.
 abbrev pub SavedForm : List ℕ → Type 0
-SavedForm bytes = (cs : List Connection) × (length cs ≡ handles) × (sound cs ≡ true) × (bytes ≡ image cs)
+SavedForm bytes = (t : Schedule) × (length (t .connections) ≡ handles) × (sound (t .connections) ≡ true) × (bytes ≡ image t)
 
 abbrev pub SavesSame : System → Type 0
 SavesSame S =
     (run : Run) (m : Made) (bytes : Bytes) (n : ℕ) → S (more run m) → RestoreOf (m .request .call) bytes → m .result .answer ≡ loaded n
-    → SavedForm (bytes .list) → image (m .result .schedule .connections) ≡ bytes .list
+    → SavedForm (bytes .list) → image (m .result .schedule) ≡ bytes .list
 
 -- The two together, in the customer's one sentence: what was restored, saved at once, gives the same bytes. A law says so of every system that
 -- meets demands 1 and 2.

@@ -4,9 +4,10 @@ use mathlib.Core.Path.{_≡_}
 use mathlib.Core.Bool.{true}
 use mathlib.Core.List.{List, [], _∷_}
 use lib.ListN.{length}
-use Rattle.rules.specs.declared.Connection.{Connection}
-use Rattle.rules.specs.Ownership.{handles, at}
+use Rattle.rules.specs.declared.Schedule.{Schedule}
+use Rattle.rules.specs.Ownership.{handles}
 use Rattle.rules.specs.Sound.{sound}
+use Rattle.rules.specs.Handles.{connection}
 use Rattle.rules.specs.Image.{IsImage}
 use Rattle.rules.specs.Answers.{Answer, ok, dropped, loaded}
 use Rattle.history.specs.Calls.{Bytes, Call, Admit, Drop, Report, Load}
@@ -46,8 +47,8 @@ Restores m bytes = RestoreOf (m .request .call) bytes × ((n : ℕ) × (m .resul
 -- that holds it".
 pub data Begins (m : Made) (x floor ceiling : ℕ) : Type 0 where
   admitted : (interval : ℕ) → AdmissionOf (m .request .call) x interval floor ceiling → Placed (m .result .answer) → Begins m x floor ceiling
-  restored : (bytes : Bytes) → Restores m bytes → (cs : List Connection) → length cs ≡ handles → sound cs ≡ true → IsImage (bytes .list) cs
-      → at cs x .live ≡ true → at cs x .floor ≡ floor → at cs x .ceiling ≡ ceiling → Begins m x floor ceiling
+  restored : (bytes : Bytes) → Restores m bytes → (t : Schedule) → length (t .connections) ≡ handles → sound (t .connections) ≡ true → IsImage (bytes .list) t
+      → connection t x .live ≡ true → connection t x .floor ≡ floor → connection t x .ceiling ≡ ceiling → Begins m x floor ceiling
 
 -- It ends: "its own drop or the next accepted restore".
 pub data Ends (m : Made) (x : ℕ) : Type 0 where

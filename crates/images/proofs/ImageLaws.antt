@@ -12,8 +12,8 @@ use borrow.Author.Tests.{le-leb, leb-true, eq-eqb, ne-eqb, not-false}
 use Rattle.rules.specs.declared.Connection.{Connection}
 use Rattle.rules.specs.declared.Schedule.{Schedule}
 use Rattle.rules.specs.Ownership.{handles, nobody, at, owns, taken, ownedTwice}
-use Rattle.rules.specs.Sound.{soundNumbers, allSound, apart, sound}
-use Rattle.rules.specs.Good.{Good, FreeSlotsZero, treeFor, scheduleOf}
+use Rattle.rules.specs.Sound.{soundNumbers, allSound, apart, soundConnections, sound}
+use Rattle.rules.specs.Good.{Good, FreeSlotsZero, treeFor, fresh, withConnections}
 use Rattle.rules.specs.Refusals.{number}
 use Rattle.rules.specs.Answers.{Outcome, refusing, loaded}
 use Rattle.rules.specs.Handles.{eachLive}
@@ -28,7 +28,7 @@ use Rattle.basics.proofs.BoolLaws.{both}
 use Rattle.basics.proofs.BelowLaws.{any-ext}
 use Rattle.blocks.proofs.TreeLaws.{tree-sized, tree-ext}
 use Rattle.rules.specs.Sound.{Numbers}
-use Rattle.blocks.proofs.SoundLaws.{numbers-sound, all-sound-at, scheduled-good}
+use Rattle.blocks.proofs.SoundLaws.{numbers-sound, all-sound-at, connected-good}
 use Rattle.calls.proofs.RefusalLaws.{Passed, decided-cases, decided-passed}
 use Rattle.calls.proofs.EachLaws.{liveCount, count-most, each-count}
 use Rattle.basics.proofs.BytesLaws.{AllBytes, bytes-append, little-bytes, little-number, number-little, same-exactly}
@@ -214,9 +214,9 @@ cleared-pieces h (c ∷ cs) = go (c .live) refl (cleared-pieces (suc h) cs)
     go true q later = rw later
     go false q later = rw q later
 
-pub image-cleared : (s : Schedule) → image (scheduleOf (cleared (s .connections))) ≡ image s
-unfolding image pieces treePiece scheduleOf
-image-cleared s =
+pub image-cleared : (s t : Schedule) → image (withConnections t (cleared (s .connections))) ≡ image s
+unfolding image pieces treePiece withConnections
+image-cleared s t =
     ap₂ (λ (rs : List Piece) (t : List ℕ). joined (countPiece (length rs) ∷ (rs ++ (record { kind = treeKind; payload = t } ∷ [])))) (cleared-pieces 0 (s .connections)) (cleared-tree (s .connections))
 
 -- Its count is read back.
@@ -367,9 +367,9 @@ passed-exactly bytes =
     )
 
 -- ---- the image of a schedule is accepted
-module _ (s : Schedule) (long : length (s .connections) ≡ handles) (isSound : sound (s .connections) ≡ true) where
+module _ (s : Schedule) (long : length (s .connections) ≡ handles) (isSound : sound s ≡ true) where
   numbered : AllNumbers (s .connections)
-  unfolding sound
+  unfolding sound soundConnections
   numbered = all-sound-at (s .connections) (both (allSound (s .connections)) (apart (s .connections)) isSound .0)
 
   read : piecesOf (image s) ≡ pieces s
@@ -394,7 +394,7 @@ module _ (s : Schedule) (long : length (s .connections) ≡ handles) (isSound : 
   read-connections = ap restored read-each ∙ restored-cleared 0 (s .connections) (omega arith) numbered
 
   pieces-accepted : Accepted (image s) (pieces s)
-  unfolding image sound
+  unfolding image sound soundConnections
   pieces-accepted =
       let cs = s .connections in
       record {
@@ -407,17 +407,17 @@ module _ (s : Schedule) (long : length (s .connections) ≡ handles) (isSound : 
       }
 
 -- The image of a sound schedule is accepted, and gives its live connections.
-pub load-image : (s t : Schedule) → length (t .connections) ≡ handles → sound (t .connections) ≡ true
-    → load s (image t) ≡ record { answer = loaded (liveCount (t .connections)); schedule = scheduleOf (cleared (t .connections)) }
+pub load-image : (s t : Schedule) → length (t .connections) ≡ handles → sound t ≡ true
+    → load s (image t) ≡ record { answer = loaded (liveCount (t .connections)); schedule = withConnections fresh (cleared (t .connections)) }
 unfolding load loadDone
 load-image s t l e =
     let r = read t l e in
     decided-passed (loadChecks (image t)) (refusing s) (loadDone (image t)) (passed-exactly (image t) .1 (subst (Accepted (image t)) (sym r) (pieces-accepted t l e)))
-    ∙ ap (λ (rs : List Piece). record { answer = loaded (countIn rs); schedule = scheduleOf (connectionsOf rs) }) r
-    ∙ ap₂ (λ (n : ℕ) (cs : List Connection). record { answer = loaded n; schedule = scheduleOf cs }) (count-read t l) (read-connections t l e)
+    ∙ ap (λ (rs : List Piece). record { answer = loaded (countIn rs); schedule = withConnections fresh (connectionsOf rs) }) r
+    ∙ ap₂ (λ (n : ℕ) (cs : List Connection). record { answer = loaded n; schedule = withConnections fresh cs }) (count-read t l) (read-connections t l e)
 
 -- Two sound schedules with the same image have the same connections.
-pub image-unique : (s t : Schedule) → length (s .connections) ≡ handles → length (t .connections) ≡ handles → sound (s .connections) ≡ true → sound (t .connections) ≡ true
+pub image-unique : (s t : Schedule) → length (s .connections) ≡ handles → length (t .connections) ≡ handles → sound s ≡ true → sound t ≡ true
     → image s ≡ image t → cleared (s .connections) ≡ cleared (t .connections)
 image-unique s t l m e f q =
     sym (ap connectionsOf (read s l e) ∙ read-connections s l e)
@@ -427,15 +427,15 @@ image-unique s t l m e f q =
 -- ---- what is accepted is the image of a schedule
 pub record Restores (bytes : List ℕ) (cs : List Connection) : Type 0 where
   pub long : length cs ≡ handles
-  pub isSound : sound cs ≡ true
-  pub saved : image (scheduleOf cs) ≡ bytes
+  pub isSound : soundConnections cs ≡ true
+  pub saved : image (withConnections fresh cs) ≡ bytes
 
 -- A record is its kind and its payload.
 piece-is : (r : Piece) (kind : ℕ) (payload : List ℕ) → r .kind ≡ kind → payload ≡ r .payload → record { kind = kind; payload = payload } ≡ r
 piece-is r kind payload k p = λ i. record { kind = sym k i; payload = p i }
 
 accepted-restores : (bytes : List ℕ) (rs : List Piece) → Each (λ r. AllBytes (r .payload)) rs → Accepted bytes rs → Restores bytes (connectionsOf rs)
-unfolding connectionsOf image pieces countPiece treePiece sound scheduleOf countIn
+unfolding connectionsOf image pieces countPiece treePiece soundConnections withConnections countIn
 accepted-restores bytes rs b a =
     let n = countIn rs in
     let p = a .parts in
@@ -462,7 +462,7 @@ accepted-restores bytes rs b a =
 
 -- A load is refused, or its bytes are the image of the sound connections that it gives.
 pub load-cases {ℓ} : (s : Schedule) (bytes : List ℕ) → AllBytes bytes → (P : Outcome → Type ℓ) → ((n : ℕ) → P (refusing s n))
-    → ((cs : List Connection) (n : ℕ) → Restores bytes cs → P (record { answer = loaded n; schedule = scheduleOf cs })) → P (load s bytes)
+    → ((cs : List Connection) (n : ℕ) → Restores bytes cs → P (record { answer = loaded n; schedule = withConnections fresh cs })) → P (load s bytes)
 unfolding load loadDone
 load-cases s bytes b P f g =
     decided-cases P (loadChecks bytes) (refusing s) (loadDone bytes) (λ why. f (number why))
@@ -470,18 +470,18 @@ load-cases s bytes b P f g =
 
 -- Load accepts bytes exactly when they are the image of some sound schedule.
 pub load-exactly : (s : Schedule) (bytes : List ℕ) → AllBytes bytes
-    → ((n : ℕ) × (load s bytes .answer ≡ loaded n)) ↔ ((t : Schedule) × (length (t .connections) ≡ handles) × (sound (t .connections) ≡ true) × IsImage bytes t)
-unfolding scheduleOf
+    → ((n : ℕ) × (load s bytes .answer ≡ loaded n)) ↔ ((t : Schedule) × (length (t .connections) ≡ handles) × (sound t ≡ true) × IsImage bytes t)
+unfolding sound withConnections
 load-exactly s bytes b = (
   λ p. to (p .0) (p .1),
   λ w. (liveCount (w .0 .connections), ap (λ (l : List ℕ). load s l .answer) (w .3) ∙ ap (λ (o : Outcome). o .answer) (load-image s (w .0) (w .1) (w .2))),
 )
   where
-    to : (n : ℕ) → load s bytes .answer ≡ loaded n → (t : Schedule) × (length (t .connections) ≡ handles) × (sound (t .connections) ≡ true) × IsImage bytes t
+    to : (n : ℕ) → load s bytes .answer ≡ loaded n → (t : Schedule) × (length (t .connections) ≡ handles) × (sound t ≡ true) × IsImage bytes t
     to n =
-        load-cases s bytes b (λ o. o .answer ≡ loaded n → (t : Schedule) × (length (t .connections) ≡ handles) × (sound (t .connections) ≡ true) × IsImage bytes t)
+        load-cases s bytes b (λ o. o .answer ≡ loaded n → (t : Schedule) × (length (t .connections) ≡ handles) × (sound t ≡ true) × IsImage bytes t)
         (λ m e. let z : _≡_ {A = ℕ} 0 1 = cc in absurd (omega arith))
-        (λ cs m r e. (scheduleOf cs, r .long, r .isSound, sym (r .saved)))
+        (λ cs m r e. (withConnections fresh cs, r .long, r .isSound, sym (r .saved)))
 
 -- The schedule that it gives, saved, gives the same bytes.
 pub load-saves : (s : Schedule) (bytes : List ℕ) (n : ℕ) → AllBytes bytes → load s bytes .answer ≡ loaded n → image (load s bytes .schedule) ≡ bytes
@@ -492,7 +492,7 @@ load-saves s bytes n b =
 
 -- A load leaves a good schedule.
 pub load-good : (s : Schedule) → Good s → (bytes : List ℕ) → AllBytes bytes → Good (load s bytes .schedule)
-load-good s good bytes b = load-cases s bytes b (λ o. Good (o .schedule)) (λ n. good) (λ cs n r. scheduled-good cs (r .long) (r .isSound))
+load-good s good bytes b = load-cases s bytes b (λ o. Good (o .schedule)) (λ n. good) (λ cs n r. connected-good fresh cs (r .long) (r .isSound))
 
 -- ---- free slots stay zeros
 pub at-free : (n h : ℕ) → at (replicate n nobody) h ≡ nobody
@@ -515,7 +515,7 @@ restored-zero (r ∷ rs) h e = set-zeros (restored rs) (handleIn r) (connectionI
 
 -- After a load a free slot is all zeros, where it was before.
 pub load-zero : (s : Schedule) → FreeSlotsZero s → (bytes : List ℕ) → FreeSlotsZero (load s bytes .schedule)
-unfolding load loadDone scheduleOf connectionsOf
+unfolding load loadDone withConnections connectionsOf
 load-zero s z bytes =
     decided-cases (λ o. FreeSlotsZero (o .schedule)) (loadChecks bytes) (refusing s) (loadDone bytes) (λ n. z)
     (λ p. restored-zero (connectionsIn (piecesOf bytes)))

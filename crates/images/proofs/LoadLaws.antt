@@ -8,7 +8,7 @@ use native.Mathlib.Omega.{arith}
 use Rattle.rules.specs.declared.Schedule.{Schedule}
 use Rattle.rules.specs.declared.Refusal.the-variants.{RecordsWrong, NumbersUnsound, BlockOwnedTwice, TreeDiffers}
 use Rattle.rules.specs.Sound.{apart}
-use Rattle.rules.specs.Good.{treeFor, scheduleOf}
+use Rattle.rules.specs.Good.{treeFor, fresh, withConnections}
 use Rattle.rules.specs.Refusals.{number}
 use Rattle.rules.specs.Answers.{Outcome, refused, refusing, loaded}
 use Rattle.rules.specs.Bytes.{same}
@@ -50,11 +50,11 @@ module _ (s : Schedule) (bytes : List ℕ) where
         load-12 e = refused-first (inr (f .right, inr (ap not p, inr (ap not q, inl (ap not e, refl)))))
 
         pub load-ok : same (treeIn (piecesOf bytes)) (treeFor (connectionsOf (piecesOf bytes))) ≡ true
-            → _≡_ {A = Outcome} (record { answer = loaded n; schedule = scheduleOf (connectionsOf (piecesOf bytes)) }) (load s bytes)
+            → _≡_ {A = Outcome} (record { answer = loaded n; schedule = withConnections fresh (connectionsOf (piecesOf bytes)) }) (load s bytes)
         unfolding load loadChecks loadDone numbersUnsound
         load-ok e =
             sym (decided-passed (loadChecks bytes) (refusing s) (loadDone bytes) (f .right, (ap not p, (ap not q, (ap not e, tt))))
-            ∙ ap (λ (m : ℕ). record { answer = loaded m; schedule = scheduleOf (connectionsOf (piecesOf bytes)) }) (f .counts))
+            ∙ ap (λ (m : ℕ). record { answer = loaded m; schedule = withConnections fresh (connectionsOf (piecesOf bytes)) }) (f .counts))
 
 -- ---- a refusal
 -- It has the number of a named refusal, and leaves the schedule as it was.

@@ -16,7 +16,7 @@ use Rattle.rules.specs.Time.{minusMod}
 use Rattle.rules.specs.Ownership.{handles, nobody, at, owns, taken}
 use Rattle.rules.specs.Classes.{runFree, setRun}
 use Rattle.rules.specs.TreeBytes.{treeOf}
-use Rattle.rules.specs.Sound.{soundNumbers, allSound, apart, sound}
+use Rattle.rules.specs.Sound.{soundNumbers, allSound, apart, soundConnections}
 use Rattle.rules.specs.Good.{treeFor}
 use Rattle.rules.specs.Admit.{isOpen}
 use Rattle.rules.specs.Records.{Piece, nth}
@@ -59,8 +59,8 @@ unfolding soundRecords
 all-numbers rs e = both (allNumbersSound rs) (rising (map handleIn rs)) e .0
 
 -- Sound is apart, where the records are sound.
-sound-apart : (rs : List Piece) → soundRecords rs ≡ true → sound (restored rs) ≡ apart (restored rs)
-unfolding sound
+sound-apart : (rs : List Piece) → soundRecords rs ≡ true → soundConnections (restored rs) ≡ apart (restored rs)
+unfolding soundConnections
 sound-apart rs e = ap (λ (v : Bool). v && apart (restored rs)) (all-sound-of (restored rs) (restored-numbers rs (all-numbers rs e)))
 
 -- ---- one record more, after the others
@@ -151,7 +151,7 @@ module _ (xs : List Piece) (r : Piece) (e : soundRecords (xs ++ (r ∷ [])) ≡ 
   clash-earlier a = is-false (apart (restored (xs ++ (r ∷ [])))) (λ w. false≢true (sym a ∙ apart-earlier w))
 
   module _ (a : apart (restored xs) ≡ true) where
-    sound-still : sound (restored xs) ≡ true
+    sound-still : soundConnections (restored xs) ≡ true
     sound-still = sound-apart xs sound-earlier ∙ a
 
     -- Its run is free: the whole is apart.
@@ -164,7 +164,7 @@ module _ (xs : List Piece) (r : Piece) (e : soundRecords (xs ++ (r ∷ [])) ≡ 
         (λ b o. is-false (others (restored xs) (handleIn r) b) (λ t.
         let w = others-at (restored xs) (handleIn r) inside b t in
         false≢true (sym (open-nobody (restored xs) (c .k) (c .length) (c .anchor) b (w .0) ever (ltb-true _ _ (sym (live-runs c refl b) ∙ o))) ∙ w .2))) in
-        sym (sound-apart (xs ++ (r ∷ [])) e) ∙ ap sound placed-here ∙ sound-exactly (set (restored xs) (handleIn r) c) .1 s
+        sym (sound-apart (xs ++ (r ∷ [])) e) ∙ ap soundConnections placed-here ∙ sound-exactly (set (restored xs) (handleIn r) c) .1 s
 
     -- Its run is not free: the whole is not apart.
     pub run-clash : runFree (taken (restored xs)) (connectionIn r .k) (connectionIn r .anchor) (connectionIn r .length) ≡ false → apart (restored (xs ++ (r ∷ []))) ≡ false
@@ -219,7 +219,7 @@ module _ (rs : List Piece) (e : soundRecords rs ≡ true) where
 
 -- ---- no record
 pub apart-none : apart (restored []) ≡ true
-unfolding sound restored allNumbersSound
+unfolding soundConnections restored allNumbersSound
 apart-none =
     let s : Sound (replicate handles nobody) = record {
       numbers = restored-numbers [] refl;

@@ -1,12 +1,14 @@
--- What is saved comes back: the image of a good schedule, loaded over whatever schedule.
+-- What is saved comes back: the image of a sound schedule, loaded over whatever schedule.
 use mathlib.Core.Path.{_≡_, refl, sym, ap, _∙_}
 use mathlib.Core.Bool.{Bool, true, cond}
 use mathlib.Core.List.{List, [], _∷_}
 use Prim.Native.Nat.{ℕ, zero, suc}
+use lib.ListN.{length}
 use Rattle.rules.specs.declared.Connection.{Connection}
 use Rattle.rules.specs.declared.Schedule.{Schedule}
 use Rattle.rules.specs.Ownership.{handles, nobody, at, owns}
 use Rattle.rules.specs.Handles.{connection}
+use Rattle.rules.specs.Sound.{sound}
 use Rattle.rules.specs.Good.{Good, FreeSlotsZero, scheduleOf}
 use Rattle.rules.specs.Owner.{ownerOr, ownerOf}
 use Rattle.rules.specs.Answers.{Outcome, loaded}
@@ -22,9 +24,9 @@ cleared-live [] h e = refl
 cleared-live (c ∷ cs) zero e = ap (λ (v : Bool). cond v c nobody) e
 cleared-live (c ∷ cs) (suc h) e = cleared-live cs h e
 
-module _ (s t : Schedule) (good : Good t) where
+module _ (s t : Schedule) (long : length (t .connections) ≡ handles) (isSound : sound (t .connections) ≡ true) where
   comes-back : load s (image t) ≡ record { answer = loaded (liveCount (t .connections)); schedule = scheduleOf (cleared (t .connections)) }
-  comes-back = load-image s t (good .places) (good .isSound)
+  comes-back = load-image s t long isSound
 
   back : load s (image t) .schedule ≡ scheduleOf (cleared (t .connections))
   back = ap (λ (o : Outcome). o .schedule) comes-back
@@ -34,17 +36,18 @@ module _ (s t : Schedule) (good : Good t) where
   unfolding scheduleOf
   round-connection h e = ap (λ (x : Schedule). connection x h) back ∙ cleared-live (t .connections) h e
 
-  -- So is every byte of the tree.
-  pub round-tree : load s (image t) .schedule .tree .bytes ≡ t .tree .bytes
-  unfolding scheduleOf
-  round-tree = ap (λ (x : Schedule). x .tree .bytes) back ∙ cleared-tree (t .connections) ∙ sym (good .hasTree)
-
-  -- And the owner of every block.
+  -- So is the owner of every block.
   pub round-owner : (b : ℕ) → ownerOf (load s (image t) .schedule) b ≡ ownerOf t b
   unfolding ownerOf scheduleOf
   round-owner b =
       ap (λ (x : Schedule). ownerOf x b) back
       ∙ ap ownerOr (least-ext handles (λ h. owns (connection (scheduleOf (cleared (t .connections))) h) b) (λ h. owns (connection t h) b) (λ h l. cleared-owns (t .connections) b h))
+
+module _ (s t : Schedule) (good : Good t) where
+  -- And so is every byte of the tree.
+  pub round-tree : load s (image t) .schedule .tree .bytes ≡ t .tree .bytes
+  unfolding scheduleOf
+  round-tree = ap (λ (x : Schedule). x .tree .bytes) (back s t (good .places) (good .isSound)) ∙ cleared-tree (t .connections) ∙ sym (good .hasTree)
 
   its-own : scheduleOf (t .connections) ≡ t
   unfolding scheduleOf
@@ -52,4 +55,6 @@ module _ (s t : Schedule) (good : Good t) where
 
   -- Where free slots are zeros, which every call keeps, it is the equal value.
   pub round-value : FreeSlotsZero t → load s (image t) ≡ record { answer = loaded (liveCount (t .connections)); schedule = t }
-  round-value z = comes-back ∙ ap (λ (x : Schedule). record { answer = loaded (liveCount (t .connections)); schedule = x }) (ap scheduleOf (cleared-same (t .connections) z) ∙ its-own)
+  round-value z =
+      comes-back s t (good .places) (good .isSound)
+      ∙ ap (λ (x : Schedule). record { answer = loaded (liveCount (t .connections)); schedule = x }) (ap scheduleOf (cleared-same (t .connections) z) ∙ its-own)

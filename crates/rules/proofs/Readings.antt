@@ -24,7 +24,7 @@ pub tight-stores : (report neighbours 0 7500 .answer ≡ tight 1) × (connection
 unfolding neighbours report
 tight-stores = (refl, refl)
 
-pub neighbours-sound : sound (neighbours .connections) ≡ true
+pub neighbours-sound : sound neighbours ≡ true
 unfolding neighbours sound
 neighbours-sound = refl
 

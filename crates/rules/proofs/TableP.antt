@@ -149,6 +149,6 @@ unfolding tableP
 table-P = refl
 
 -- And what it writes down is sound, as is every schedule that is given to a call.
-pub table-P-sound : (sound (oneLive .connections) ≡ true) × (sound (e5000 .connections) ≡ true) × (sound (e5312 .connections) ≡ true) × (sound (e0 .connections) ≡ true)
+pub table-P-sound : (sound oneLive ≡ true) × (sound e5000 ≡ true) × (sound e5312 ≡ true) × (sound e0 ≡ true)
 unfolding oneLive e5000 e5312 e0 sound
 table-P-sound = (refl, refl, refl, refl)

@@ -19,19 +19,12 @@ treeFor cs = treeOf (taken cs)
 -- Its array has 64 places, as its type says.
 pub record Good (s : Schedule) : Type 0 where
   pub places : length (s .connections) ≡ handles
-  pub isSound : sound (s .connections) ≡ true
+  pub isSound : sound s ≡ true
   pub hasTree : s .tree .bytes ≡ treeFor (s .connections)
 
 -- A free slot is all zeros: no part of what a call may assume, and kept by every call.
 abbrev pub FreeSlotsZero : Schedule → Type 0
 FreeSlotsZero s = (h : ℕ) → at (s .connections) h .live ≡ false → at (s .connections) h ≡ nobody
-
--- The connections with their tree.
-unfoldable pub scheduleOf : List Connection → Schedule
-unfolding treeFor
-scheduleOf cs =
-    let bytes = treeFor cs in
-    record { connections = cs; tree = record { bytes = bytes } }
 
 -- The fresh schedule: no handle has a connection.
 unfoldable pub fresh : Schedule

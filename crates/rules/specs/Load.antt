@@ -9,7 +9,7 @@ use Rattle.rules.specs.declared.Schedule.{Schedule}
 use Rattle.rules.specs.declared.Refusal.the-variants.{RecordsWrong, NumbersUnsound, BlockOwnedTwice, TreeDiffers}
 use Rattle.rules.specs.Ownership.{handles, nobody}
 use Rattle.rules.specs.Sound.{soundNumbers, apart}
-use Rattle.rules.specs.Good.{treeFor, scheduleOf}
+use Rattle.rules.specs.Good.{treeFor, fresh, withConnections}
 use Rattle.rules.specs.Refusals.{Check, check, decided}
 use Rattle.rules.specs.Answers.{Outcome, refusing, loaded}
 use Rattle.rules.specs.Bytes.{same}
@@ -63,10 +63,10 @@ loadChecks bytes =
 
 -- "Accepted, the image's schedule replaces the old one; the answer is n."
 unfoldable pub loadDone : List ℕ → Outcome
-unfolding piecesOf connectionsOf scheduleOf countIn
+unfolding piecesOf connectionsOf fresh withConnections countIn
 loadDone bytes =
     let rs = piecesOf bytes in
-    let after = scheduleOf (connectionsOf rs) in
+    let after = withConnections fresh (connectionsOf rs) in
     record { answer = loaded (countIn rs); schedule = after }
 
 unfoldable pub load : Schedule → List ℕ → Outcome

@@ -4,6 +4,7 @@ use mathlib.Core.Bool.{Bool, true, not, _||_, _&&_}
 use mathlib.Core.List.{List, [], _∷_}
 use lib.Dec.{leb, ltb}
 use Rattle.rules.specs.declared.Connection.{Connection}
+use Rattle.rules.specs.declared.Schedule.{Schedule}
 use Rattle.rules.specs.Below.{any}
 use Rattle.rules.specs.Time.{blockMicros, listBlocks}
 use Rattle.rules.specs.Ownership.{largestK, factor, ownedTwice}
@@ -41,8 +42,12 @@ unfoldable pub apart : List Connection → Bool
 unfolding any ownedTwice
 apart cs = not (any listBlocks (ownedTwice cs))
 
--- "A schedule is sound when for each live connection 1 ≤ floor ≤ L ≤ ceiling ≤ F and estimate ≤ L × 7,500, and no block
--- belongs to two."
-unfoldable pub sound : List Connection → Bool
+-- "for each live connection 1 ≤ floor ≤ L ≤ ceiling ≤ F and estimate ≤ L × 7,500, and no block belongs to two"
+unfoldable pub soundConnections : List Connection → Bool
 unfolding allSound apart
-sound cs = allSound cs && apart cs
+soundConnections cs = allSound cs && apart cs
+
+-- "A schedule is sound when" its connections are.
+unfoldable pub sound : Schedule → Bool
+unfolding soundConnections
+sound s = soundConnections (s .connections)

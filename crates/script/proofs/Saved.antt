@@ -32,7 +32,7 @@ use Rattle.script.proofs.Printing.{puts-as}
 pub record Holds (s : Schedule) (buffer : List ℕ) (n : ℕ) : Type 0 where
   pub within : n ≤ length buffer
   pub small : n ≤ 1290
-  pub is : take n buffer ≡ image (s .connections)
+  pub is : take n buffer ≡ image s
   pub long : length (take n buffer) ≡ n
 
 -- In hexadecimal it is twice as long.
@@ -43,22 +43,22 @@ same-size : {m k : ℕ} → saved m ≡ saved k → m ≡ k
 same-size e = cc
 
 module _ (s : Schedule) (good : Good s) (entry exit : List ℕ) (large : 2048 ≤ length entry) where
-  wrote : save s entry ≡ record { answer = saved (length (image (s .connections))); buffer = image (s .connections) ++ drop (length (image (s .connections))) entry }
+  wrote : save s entry ≡ record { answer = saved (length (image s)); buffer = image s ++ drop (length (image s)) entry }
   wrote =
-      let b = image-bounds (s .connections) (good .places) in
-      save-whole s entry (image (s .connections)) refl (omega arith)
+      let b = image-bounds s (good .places) in
+      save-whole s entry (image s) refl (omega arith)
 
   pub holds : (n : ℕ) → Saves s entry exit (Size n) → Holds s exit n
   holds n p =
       let e = p ∙ wrote in
-      let q : n ≡ length (image (s .connections)) = same-size (ap (λ (w : Written). w .answer) e) in
+      let q : n ≡ length (image s) = same-size (ap (λ (w : Written). w .answer) e) in
       let x = ap (λ (w : Written). w .buffer) e in
-      let b = image-bounds (s .connections) (good .places) in
+      let b = image-bounds s (good .places) in
       record {
-        within = omega (arith, q, ap (λ (l : List ℕ). length l) x, length-append (image (s .connections)) (drop (length (image (s .connections))) entry));
+        within = omega (arith, q, ap (λ (l : List ℕ). length l) x, length-append (image s) (drop (length (image s)) entry));
         small = omega (arith, q, b .1);
-        is = ap (take n) x ∙ take-at (image (s .connections)) _ n (sym q);
-        long = ap (λ (l : List ℕ). length l) (ap (take n) x ∙ take-at (image (s .connections)) _ n (sym q)) ∙ sym q;
+        is = ap (take n) x ∙ take-at (image s) _ n (sym q);
+        long = ap (λ (l : List ℕ). length l) (ap (take n) x ∙ take-at (image s) _ n (sym q)) ∙ sym q;
       }
 
   -- It is large enough.
@@ -66,7 +66,7 @@ module _ (s : Schedule) (good : Good s) (entry exit : List ℕ) (large : 2048 �
   never-refused r p = let e = ap (λ (w : Written). w .answer) (p ∙ wrote) in let z : _≡_ {A = ℕ} 0 1 = cc in omega arith
 
 -- The line of an image.
-pub image-line : {l b c d : List ℕ} {i j k : ℕ} (s : Schedule) {bytes : List ℕ} → bytes ≡ image (s .connections) → Puts l 0 (text "image ") b i → Puts b i (hex bytes) c j
+pub image-line : {l b c d : List ℕ} {i j k : ℕ} (s : Schedule) {bytes : List ℕ} → bytes ≡ image s → Puts l 0 (text "image ") b i → Puts b i (hex bytes) c j
     → Puts c j newline d k → Puts l 0 (imageLine s) d k
 unfolding imageLine
 image-line s e p q r = puts-after (puts-after p (puts-as (ap hex e) q)) r
@@ -79,8 +79,8 @@ size-fits s good entry exit (Size n) p =
     decided-cases (λ (w : Written). w .answer ≡ saved n → n < 2 ^ 32) (saveChecks s entry) (λ m. record { answer = refused m; buffer = entry }) (saveDone s entry)
     (λ m e. let z : _≡_ {A = ℕ} 0 1 = cc in absurd (omega arith))
     (λ d e.
-    let b = image-bounds (s .connections) (good .places) in
-    let q : length (image (s .connections)) ≡ n = same-size e in
+    let b = image-bounds s (good .places) in
+    let q : length (image s) ≡ n = same-size e in
     omega (arith, q, b .1))
     (sym (ap (λ (w : Written). w .answer) p))
 size-fits s good entry exit (Refused r) p = tt
@@ -97,7 +97,7 @@ saved-line s entry exit a n e p w q r =
 pub save-length : (s : Schedule) (entry exit : List ℕ) (a : Saving) → Saves s entry exit a → length exit ≡ length entry
 unfolding save saveChecks saveDone
 save-length s entry exit a p =
-    let bytes = image (s .connections) in
+    let bytes = image s in
     ap (λ (w : Written). length (w .buffer)) p
     ∙ decided-cases (λ (w : Written). length (w .buffer) ≡ length entry) (saveChecks s entry) (λ m. record { answer = refused m; buffer = entry }) (saveDone s entry)
     (λ m. refl)

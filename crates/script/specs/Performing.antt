@@ -46,7 +46,7 @@ blank n = replicate n 165
 -- "`image`, one space and the image in lower-case hexadecimal"
 unfoldable pub imageLine : Schedule → List ℕ
 unfolding image hex
-imageLine s = text "image " ++ hex (image (s .connections)) ++ newline
+imageLine s = text "image " ++ hex (image s) ++ newline
 
 -- "`saved` and the size, or `no 8`; then, if N is not 0, one space and the whole buffer afterwards in hexadecimal"
 unfoldable pub savedLine : Schedule → ℕ → List ℕ
