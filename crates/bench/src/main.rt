@@ -2,13 +2,13 @@
 ghost use Prim.Native.Nat.{_≤_};
 ghost use lib.ListN.{length};
 ghost use Rattle.rules.specs.Good.{Good};
+use answer::put_loading;
+use answer::put_reply;
 use image::load;
 use image::save;
 use input::Input;
 use input::read_all;
 use libc::STDOUT_FILENO;
-use line::put_loading;
-use line::put_reply;
 use order::Order;
 use order::order_of;
 use questions::anchor;

@@ -18,7 +18,7 @@ use Rattle.rules.specs.Program.{Printed, carriedOut}
 use Rattle.texts.proofs.CommandLaws.{says-only, line-length}
 use Rattle.text.specs.Promises.{Puts}
 use Rattle.command.specs.Promises.{Obeys, Carries}
-use Rattle.line.specs.Promises.{PutsLine, PutsAnswer}
+use Rattle.answer.specs.Promises.{PutsLine, PutsAnswer}
 
 -- A command is as long as its answer needs.
 pub room-said : (line : List ℕ) (c : Command) → says line ≡ Says c → longestAnswer ≤ 4 * (length line + 1)

@@ -20,7 +20,7 @@ use Rattle.rules.specs.Obey.{obey}
 use Rattle.rules.specs.Commands.{says}
 use Rattle.rules.specs.Program.{mostOutput, carriedOut, program}
 use Rattle.text.specs.Promises.{Puts}
-use Rattle.line.specs.Promises.{PutsLine}
+use Rattle.answer.specs.Promises.{PutsLine}
 use Rattle.command.specs.declared.Carried.{Carried}
 use Rattle.command.specs.declared.Output.{Output}
 

@@ -7,7 +7,7 @@ ghost use Rattle.command.specs.Promises.{Carries, Prints, Runs};
 use crate::Carried;
 use crate::Output;
 use crate::obeying::obey;
-use line::put_reply;
+use answer::put_reply;
 use line::says;
 use rules::Line;
 use rules::MOST_INPUT;

@@ -10,7 +10,7 @@ use lib.ListN.{length}
 use Rattle.rules.specs.declared.Schedule.{Schedule}
 use Rattle.rules.specs.Ownership.{handles, nobody}
 use Rattle.rules.specs.Sound.{sound}
-use Rattle.rules.specs.Good.{Good, scheduleOf}
+use Rattle.rules.specs.Good.{Good, withConnections}
 use Rattle.rules.specs.Answers.{Outcome, refusing, dropped}
 use Rattle.rules.specs.Handles.{connection, isLive}
 use Rattle.rules.specs.Admit.{kOf, newConnection, anchorFor, admitDone, admit}
@@ -42,7 +42,7 @@ pub data Effect (s : Schedule) (m : Made) (x : ℕ) : Type 0 where
       → isLive s x ≡ false → connection (m .result .schedule) x ≡ newConnection k A f c → Effect s m x
   ended : DropOf (m .request .call) x → m .result .answer ≡ dropped → connection (m .result .schedule) x ≡ nobody → Effect s m x
   replaced : (bytes : Bytes) → Restores m bytes → length (m .result .schedule .connections) ≡ handles
-      → sound (m .result .schedule .connections) ≡ true → IsImage (bytes .list) (m .result .schedule) → Effect s m x
+      → sound (m .result .schedule) ≡ true → IsImage (bytes .list) (m .result .schedule) → Effect s m x
 
 -- A call that can neither begin nor end x, whatever its answer.
 abbrev Other : ℕ → Call → Type 0
@@ -113,7 +113,7 @@ module _ (s : Schedule) (good : Good s) (r : Request) (x : ℕ) where
       (λ q. kept (other p tt) (report-others s good h sample x q))
 
   restoring : (bytes : Bytes) → r .call ≡ Load bytes → Leads (load s (bytes .list))
-  unfolding scheduleOf
+  unfolding sound withConnections
   restoring bytes p =
       load-cases s (bytes .list) (bytes .small) Leads refusal (λ cs n w. replaced bytes (p, (n, refl)) (w .long) (w .isSound) (sym (w .saved)))
 

@@ -110,7 +110,7 @@ RoomExact S =
 abbrev pub RestoreExact : System → Type 0
 RestoreExact S =
     (run : Run) (m : Made) (bytes : Bytes) → S (more run m) → RestoreOf (m .request .call) bytes
-    → ((n : ℕ) × (m .result .answer ≡ loaded n)) ↔ ((t : Schedule) × (length (t .connections) ≡ handles) × (sound (t .connections) ≡ true) × IsImage (bytes .list) t)
+    → ((n : ℕ) × (m .result .answer ≡ loaded n)) ↔ ((t : Schedule) × (length (t .connections) ≡ handles) × (sound t ≡ true) × IsImage (bytes .list) t)
 
 -- "and saving that schedule gives the same bytes": a save with room writes the image of the schedule,
 abbrev pub SavesImage : System → Type 0
@@ -121,7 +121,7 @@ SavesImage S =
 
 -- and that is what was restored, where that has the form in which images are saved: as every image has today.
 abbrev pub SavedForm : List ℕ → Type 0
-SavedForm bytes = (t : Schedule) × (length (t .connections) ≡ handles) × (sound (t .connections) ≡ true) × (bytes ≡ image t)
+SavedForm bytes = (t : Schedule) × (length (t .connections) ≡ handles) × (sound t ≡ true) × (bytes ≡ image t)
 
 abbrev pub SavesSame : System → Type 0
 SavesSame S =

@@ -47,7 +47,7 @@ Restores m bytes = RestoreOf (m .request .call) bytes × ((n : ℕ) × (m .resul
 -- that holds it".
 pub data Begins (m : Made) (x floor ceiling : ℕ) : Type 0 where
   admitted : (interval : ℕ) → AdmissionOf (m .request .call) x interval floor ceiling → Placed (m .result .answer) → Begins m x floor ceiling
-  restored : (bytes : Bytes) → Restores m bytes → (t : Schedule) → length (t .connections) ≡ handles → sound (t .connections) ≡ true → IsImage (bytes .list) t
+  restored : (bytes : Bytes) → Restores m bytes → (t : Schedule) → length (t .connections) ≡ handles → sound t ≡ true → IsImage (bytes .list) t
       → connection t x .live ≡ true → connection t x .floor ≡ floor → connection t x .ceiling ≡ ceiling → Begins m x floor ceiling
 
 -- It ends: "its own drop or the next accepted restore".

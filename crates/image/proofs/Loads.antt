@@ -11,7 +11,7 @@ use Rattle.rules.specs.declared.Refusal.the-variants.{RecordsWrong, NumbersUnso
 use Rattle.rules.specs.declared.Loaded.{Loaded}
 use Rattle.rules.specs.declared.Restored.{Restored}
 use Rattle.rules.specs.TreeBytes.{treeBytes}
-use Rattle.rules.specs.Good.{Good, treeFor, scheduleOf}
+use Rattle.rules.specs.Good.{Good, treeFor, fresh, withConnections}
 use Rattle.rules.specs.Refusals.{number}
 use Rattle.rules.specs.Answers.{Outcome, refusing, loaded, ofLoaded}
 use Rattle.rules.specs.Bytes.{same}
@@ -28,8 +28,8 @@ use Rattle.restore.proofs.Calls.{restores-apart}
 use Rattle.image.specs.Promises.{Loads}
 use Rattle.image.proofs.Puts.{tree-for-long}
 
-schedule-tree : (cs : List Connection) (s : Schedule) → s ≡ scheduleOf cs → s .tree .bytes ≡ treeFor cs
-unfolding scheduleOf
+schedule-tree : (cs : List Connection) (s : Schedule) → s ≡ withConnections fresh cs → s .tree .bytes ≡ treeFor cs
+unfolding withConnections
 schedule-tree cs s e = ap (λ (x : Schedule). x .tree .bytes) e
 
 module _ (s : Schedule) (good : Good s) (bytes : List ℕ) (b : AllBytes bytes) where

@@ -1,3 +1,2 @@
--- The lines that are printed, and what a line says.
-pub mod Lines
+-- What a line says.
 pub mod Spoken

@@ -8,7 +8,7 @@ use lib.ListN.{length, take}
 use lib.Seq.{take-length}
 use Rattle.rules.specs.declared.Restored.{Restored}
 use Rattle.rules.specs.Sound.{apart}
-use Rattle.rules.specs.Good.{scheduleOf}
+use Rattle.rules.specs.Good.{fresh, withConnections}
 use Rattle.rules.specs.Records.{Piece, begin, piecesOf}
 use Rattle.rules.specs.Load.{soundRecords, restored}
 use Rattle.basics.proofs.BelowLaws.{largest-unique}
@@ -29,8 +29,8 @@ module _ (rs : List Piece) where
 
 -- Where all are apart, all are restored.
 pub restores-apart : (bytes : List ℕ) (r : Restored) → Restores bytes r → r .apart ≡ true
-    → (r .schedule ≡ scheduleOf (restored (records bytes))) × (r .end ≡ begin (piecesOf bytes) (suc (length (records bytes))))
+    → (r .schedule ≡ withConnections fresh (restored (records bytes))) × (r .end ≡ begin (piecesOf bytes) (suc (length (records bytes))))
 restores-apart bytes r p t =
     let rs = records bytes in
     let e : mostApart rs ≡ length rs = most-all rs (sym (p .says) ∙ t) in
-    (p .is ∙ ap (λ (k : ℕ). scheduleOf (restored (take k rs))) e ∙ ap (λ (xs : List Piece). scheduleOf (restored xs)) (take-length rs), p .ends ∙ ap (λ (k : ℕ). begin (piecesOf bytes) (suc k)) e)
+    (p .is ∙ ap (λ (k : ℕ). withConnections fresh (restored (take k rs))) e ∙ ap (λ (xs : List Piece). withConnections fresh (restored xs)) (take-length rs), p .ends ∙ ap (λ (k : ℕ). begin (piecesOf bytes) (suc k)) e)

@@ -1,5 +1,4 @@
 -- What the functions' proofs cite, and the laws of the promise.
 mod Records
-mod Runs
 mod Turns
 pub mod Calls

@@ -1,27 +1,27 @@
 -- The connections and the tree of the first i records, and one record more.
-use mathlib.Core.Path.{_≡_, sym, ap, _∙_, subst}
+use mathlib.Core.Path.{_≡_, refl, sym, ap, _∙_, subst}
 use mathlib.Core.Bool.{Bool, true, false}
 use mathlib.Core.List.{List, [], _∷_, _++_}
 use Prim.Native.Nat.{ℕ, suc, _+_, _<_}
 use native.Mathlib.Numerals.{add-one}
 use native.Mathlib.Omega.{arith}
-use lib.ListN.{length, take, set, replicate}
+use lib.ListN.{length, take, set}
 use lib.Seq.{take-length, take-suc}
 use Rattle.rules.specs.declared.Connection.{Connection}
+use Rattle.rules.specs.declared.Schedule.{Schedule}
 use Rattle.rules.specs.declared.Restored.{Restored}
-use Rattle.rules.specs.Ownership.{handles, nobody, taken}
-use Rattle.rules.specs.Classes.{nothing, runFree, setRun}
+use Rattle.rules.specs.Ownership.{handles, taken}
+use Rattle.rules.specs.Classes.{runFree, setRun}
 use Rattle.rules.specs.TreeBytes.{treeOf}
 use Rattle.rules.specs.Sound.{Numbers, apart}
-use Rattle.rules.specs.Good.{treeFor, scheduleOf}
+use Rattle.rules.specs.Good.{treeFor, fresh, withConnections}
 use Rattle.rules.specs.Records.{Piece, nth}
 use Rattle.rules.specs.Fields.{handleIn, connectionIn}
 use Rattle.rules.specs.Load.{soundRecords, restored}
-use Rattle.blocks.proofs.ScheduleLaws.{fresh-tree}
 use Rattle.images.proofs.RestoreLaws.{numbers-here, handle-here, placed-here, run-apart, run-clash, run-tree, sound-next, clash-first, apart-none}
 use Rattle.tree.specs.Promises.{IsTree}
-use Rattle.run.specs.Promises.{SetsRun}
-use Rattle.restore.specs.Promises.{RunFreeSays, records, mostApart, Restores}
+use Rattle.run.specs.Promises.{RunFreeSays, SetsRun}
+use Rattle.restore.specs.Promises.{records, mostApart, Restores}
 use Rattle.restore.proofs.Records.{Cursor}
 use Rattle.restore.proofs.Calls.{most-all, most-clash}
 
@@ -31,9 +31,9 @@ pub record Taken (rs : List Piece) (i : ℕ) (cs : List Connection) (tree : List
   pub marked : tree ≡ treeOf (taken (restored (take i rs)))
   pub separate : apart (restored (take i rs)) ≡ true
 
-pub taken-none : (rs : List Piece) (c : Connection) (tree : List ℕ) → c ≡ nobody → tree ≡ treeOf nothing → Taken rs 0 (replicate handles c) tree
-unfolding restored treeFor
-taken-none rs c tree e t = record { placed = ap (replicate handles) e; marked = t ∙ fresh-tree; separate = apart-none }
+pub taken-none : (rs : List Piece) (s : Schedule) → s ≡ fresh → Taken rs 0 (s .connections) (s .tree .bytes)
+unfolding restored fresh treeFor
+taken-none rs s e = rw e (record { placed = refl; marked = refl; separate = apart-none })
 
 pub taken-tree : (rs : List Piece) (i : ℕ) (cs : List Connection) (tree : List ℕ) → Taken rs i cs tree → IsTree tree
 taken-tree rs i cs tree w = (taken (restored (take i rs)), w .marked)
@@ -83,7 +83,7 @@ module _ (rs : List Piece) (i : ℕ) (l : i < length rs) (e : soundRecords rs �
 module _ (bytes : List ℕ) (i : ℕ) (cs : List Connection) (tree : List ℕ) (w : Taken (records bytes) i cs tree)
     (r : Restored) (p : r .schedule .connections ≡ cs) (t : r .schedule .tree .bytes ≡ tree) (at : Cursor bytes i (r .end)) where
   restores : r .apart ≡ apart (restored (records bytes)) → mostApart (records bytes) ≡ i → Restores bytes r
-  unfolding scheduleOf treeFor
+  unfolding withConnections treeFor
   restores says m =
       record {
         says = says;

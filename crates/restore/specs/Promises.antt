@@ -1,19 +1,16 @@
 -- What the checks of an image's connections promise.
 use Prim.Native.Nat.{ℕ, suc}
 use mathlib.Core.Path.{_≡_}
-use mathlib.Core.Bool.{Bool}
 use mathlib.Core.List.{List, _++_}
 use lib.ListN.{length, take, drop}
 use Rattle.rules.specs.declared.Restored.{Restored}
 use Rattle.rules.specs.Below.{largest}
 use Rattle.rules.specs.Sound.{apart}
-use Rattle.rules.specs.Good.{scheduleOf}
-use Rattle.rules.specs.Classes.{runFree}
+use Rattle.rules.specs.Good.{fresh, withConnections}
 use Rattle.rules.specs.Records.{Piece, written, begin, piecesOf}
 use Rattle.rules.specs.Form.{connectionSize}
 use Rattle.rules.specs.Fields.{connectionsIn}
 use Rattle.rules.specs.Load.{restored}
-use Rattle.tree.specs.Promises.{ByTree}
 
 -- The bytes go on, at a cursor, with this record of a connection.
 pub record GoesOn (bytes : List ℕ) (at : ℕ) (r : Piece) : Type 0 where
@@ -24,10 +21,6 @@ pub record GoesOn (bytes : List ℕ) (at : ℕ) (r : Piece) : Type 0 where
 -- What f says of the record at a cursor.
 abbrev pub Reads : {A : Type 0} → (Piece → A) → List ℕ → ℕ → A → Type 0
 Reads f bytes at said = (r : Piece) → GoesOn bytes at r → said ≡ f r
-
--- Whether every class of the run is free.
-abbrev pub RunFreeSays : ℕ → ℕ → ℕ → List ℕ → Bool → Type 0
-RunFreeSays k A n bytes says = ByTree bytes says (λ taken. runFree taken k A n)
 
 -- The records of the connections in the bytes.
 abbrev pub records : List ℕ → List Piece
@@ -40,5 +33,5 @@ mostApart rs = largest (length rs) (λ i. apart (restored (take i rs)))
 -- Whether no two of all do; the connections of the most with their tree, and where the record after them begins.
 pub record Restores (bytes : List ℕ) (r : Restored) : Type 0 where
   pub says : r .apart ≡ apart (restored (records bytes))
-  pub is : r .schedule ≡ scheduleOf (restored (take (mostApart (records bytes)) (records bytes)))
+  pub is : r .schedule ≡ withConnections fresh (restored (take (mostApart (records bytes)) (records bytes)))
   pub ends : r .end ≡ begin (piecesOf bytes) (suc (mostApart (records bytes)))

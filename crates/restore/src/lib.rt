@@ -3,26 +3,21 @@ ghost use mathlib.Core.Path.{_≡_};
 ghost use mathlib.Core.Bool.{true};
 ghost use Prim.Native.Nat.{_+_, _<_, _≤_, _^_};
 ghost use lib.ListN.{length, take, drop};
-ghost use Rattle.rules.specs.Classes.{depth};
 ghost use Rattle.rules.specs.Sound.{soundNumbers};
 ghost use Rattle.rules.specs.Bytes.{littleNumber};
 ghost use Rattle.rules.specs.Form.{connectionSize};
 ghost use Rattle.rules.specs.Framing.{Framed};
 ghost use Rattle.rules.specs.Fields.{fieldIn, handleIn, connectionIn};
 ghost use Rattle.rules.specs.Load.{soundRecords};
-ghost use Rattle.tree.specs.Promises.{IsTree};
-ghost use Rattle.restore.specs.Promises.{Reads, RunFreeSays, records, Restores};
+ghost use Rattle.restore.specs.Promises.{Reads, records, Restores};
 use rules::BLOCK_MICROS;
 use rules::Connection;
 use rules::HANDLES;
 use rules::LARGEST_K;
 use rules::Restored;
-use rules::Schedule;
-use rules::TREE_BYTES;
-use rules::Tree;
-use run::class_at;
 use run::factor;
-use run::nobody;
+use run::fresh;
+use run::run_free;
 use run::set_run;
 
 // The cursor after the record at `cursor`: its header, and the payload as long as the header says.
@@ -118,28 +113,12 @@ pub fn records_sound(bytes: &[u8], n: usize) -> bool
     true
 }
 
-// Every class of the run is free.
-fn run_free(tree: &[u8; TREE_BYTES], k: u32, anchor: u32, length: u32) -> bool
-    requires { ⌜ (k ≤ depth) × (anchor < 2 ^ k) × (length ≤ 2 ^ k) × IsTree (now tree) ⌝ }
-    ensures { λ r. ⌜ RunFreeSays k anchor length (now (tree .entry)) r ⌝ }
-{
-    for j in 0..length {
-        if !tree::is_free(tree, k, class_at(k, anchor, j)) {
-            return false;
-        }
-    }
-    true
-}
-
 /// Check 11: the connections of the records with their tree, taken one after the other on an empty tree; or two of them own one block.
 pub fn restore(bytes: &[u8], n: usize) -> Restored
     requires { ⌜ Framed (now bytes) n × (soundRecords (records (now bytes)) ≡ true) ⌝ }
     ensures { λ r. ⌜ Restores (now (bytes .entry)) r ⌝ }
 {
-    let connections = [nobody(); HANDLES];
-    let empty = tree::empty();
-    let tree = Tree { bytes: empty };
-    let mut s = Schedule { connections, tree };
+    let mut s = fresh();
     let mut cursor = next(bytes, 0);
     let mut apart = true;
     for i in 0..n {

@@ -14,7 +14,7 @@ use Rattle.rules.specs.Words.{wordsOf}
 use Rattle.rules.specs.Program.{carriedOut}
 use Rattle.text.specs.Promises.{Puts, PutsWithin}
 use Rattle.text.proofs.Putting.{puts-after}
-use Rattle.line.specs.Promises.{PutsWords, PutsAnswer}
+use Rattle.answer.specs.Promises.{PutsWords, PutsAnswer}
 use Rattle.run.specs.Promises.{Starts}
 use Rattle.image.specs.Promises.{Loads}
 use Rattle.command.specs.Promises.{Obeys}

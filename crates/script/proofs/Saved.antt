@@ -24,7 +24,7 @@ use Rattle.text.specs.Promises.{Puts}
 use Rattle.text.proofs.Putting.{puts-after}
 use Rattle.hex.specs.Hex.{hex}
 use Rattle.script.specs.Performing.{imageLine, savedLine, blank, bufferWords, newline}
-use Rattle.line.specs.Promises.{SizeFits}
+use Rattle.answer.specs.Promises.{SizeFits}
 use Rattle.hex.proofs.HexLaws.{hex-length}
 use Rattle.script.proofs.Printing.{puts-as}
 

@@ -4,7 +4,7 @@ use mathlib.Core.List.{List, [], _∷_, _++_, append-nil, append-assoc}
 use Prim.Native.Nat.{ℕ, suc, _+_, _/_, _%_, _^_, _<_, _≤_}
 use native.Mathlib.Omega.{arith}
 use lib.ListN.{length, getD, take, set, length-append}
-use lib.Seq.{length-sets, take-suc}
+use lib.Seq.{length-sets, length-take-le, take-suc}
 use Rattle.rules.specs.Decimal.{decimal}
 use Rattle.rules.specs.Words.{spaced}
 use Rattle.basics.proofs.StoreLaws.{put-after}
@@ -103,3 +103,7 @@ module _ {l b : List ℕ} {start i : ℕ} {xs : List ℕ} where
 pub within-spaced : {l b c : List ℕ} {start i j most : ℕ} (word ns : List ℕ) (k n : ℕ) → n < 10 ^ suc k → PutsWithin most l start (word ++ spaced ns) b i
     → Puts b i (spaced (n ∷ [])) c j → PutsWithin (most + (k + 2)) l start (word ++ spaced (ns ++ (n ∷ []))) c j
 within-spaced word ns k n h p q = record { puts = puts-number word ns n (p .puts) q; room = omega (arith, p .room, q .ends, number-room k n h) }
+
+-- What is put from the start is a part of the buffer.
+pub within-part : {l b xs : List ℕ} {most n : ℕ} → PutsWithin most l 0 xs b n → most ≤ length l → n ≡ length (take n b)
+within-part {l} {b} {xs} {most} {n} p h = sym (length-take-le n b (omega (arith, p .room, puts-length (p .puts))))

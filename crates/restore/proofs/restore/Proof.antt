@@ -30,47 +30,44 @@ abbrev μ-loop : tie.MeasureT-loop
 small : (c : tie.After-shared-slice-known Inv-loop μ-loop) → AllBytes (c .before .args .bytes .now)
 small c i = omega (arith, c .shared-slice-known .given i)
 
-nobody-requires : tie.Need-nobody-requires Inv-loop μ-loop
-nobody-requires c κs = search needs
-
-empty-requires : tie.Need-empty-requires Inv-loop μ-loop
-empty-requires c κs = search needs
+fresh-requires : tie.Need-fresh-requires Inv-loop μ-loop
+fresh-requires c κs = search needs
 
 next-requires : tie.Need-next-requires Inv-loop μ-loop
 next-requires c κs =
-    let s = c .before .before in
+    let s = c .before in
     room-first (s .before .args .bytes .now) (s .before .args .n) (s .before .pre .0) (small s)
 
 loop-holds : tie.Need-loop-holds Inv-loop μ-loop
 loop-holds c =
     let m = c .before in
-    let s = m .before .before in
+    let s = m .before in
     let a = s .before in (
       omega arith,
       cursor-first (a .args .bytes .now) (a .args .n) (a .pre .0) (small s) (c .next .result) (c .next .ensures),
-      taken-none (records (a .args .bytes .now)) (m .before .nobody .result) (m .empty .result) (m .before .nobody .ensures) (m .empty .ensures),
+      taken-none (records (a .args .bytes .now)) (m .fresh .result) (m .fresh .ensures .is),
       refl,
     )
 
 -- record i is there, and is whole
-here : (c : tie.In-loop Inv-loop μ-loop) → GoesOn (c .before .before .before .before .before .before .args .bytes .now) (c .before .loop .cursor) (nth (records (c .before .before .before .before .before .before .args .bytes .now)) (c .before .loop .i))
+here : (c : tie.In-loop Inv-loop μ-loop) → GoesOn (c .before .before .before .before .before .args .bytes .now) (c .before .loop .cursor) (nth (records (c .before .before .before .before .before .args .bytes .now)) (c .before .loop .i))
 here c =
     let l = c .before .loop in
-    let s = c .before .before .before .before .before in
+    let s = c .before .before .before .before in
     let a = s .before in
     goes-on (a .args .bytes .now) (a .args .n) (a .pre .0) (small s) (l .i) (c .loop-test .taken) (l .cursor) (l .inv .1)
 
-room : (c : tie.In-loop Inv-loop μ-loop) → c .before .loop .cursor + (4 + connectionSize) ≤ length (c .before .before .before .before .before .before .args .bytes .now)
+room : (c : tie.In-loop Inv-loop μ-loop) → c .before .loop .cursor + (4 + connectionSize) ≤ length (c .before .before .before .before .before .args .bytes .now)
 room c =
     let l = c .before .loop in
-    let s = c .before .before .before .before .before in
+    let s = c .before .before .before .before in
     let a = s .before in
     cursor-room (a .args .bytes .now) (a .args .n) (a .pre .0) (small s) (l .i) (c .loop-test .taken) (l .cursor) (l .inv .1)
 
 -- it is one of the records
-inside : (c : tie.In-loop Inv-loop μ-loop) → c .before .loop .i < length (records (c .before .before .before .before .before .before .args .bytes .now))
+inside : (c : tie.In-loop Inv-loop μ-loop) → c .before .loop .i < length (records (c .before .before .before .before .before .args .bytes .now))
 inside c =
-    let s = c .before .before .before .before .before in
+    let s = c .before .before .before .before in
     let a = s .before in
     omega (arith, connections-long (a .args .bytes .now) (a .args .n) (a .pre .0) (small s), c .loop-test .taken)
 
@@ -79,30 +76,30 @@ connection-at-requires c κs = room c
 
 -- its connection, with sound numbers, and its handle
 connection-read : (c : tie.After-connection-at Inv-loop μ-loop)
-    → c .connection-at .result ≡ connectionIn (nth (records (c .before .before .before .before .before .before .before .args .bytes .now)) (c .before .before .loop .i))
+    → c .connection-at .result ≡ connectionIn (nth (records (c .before .before .before .before .before .before .args .bytes .now)) (c .before .before .loop .i))
 connection-read c = c .connection-at .ensures _ (here (c .before))
 
 numbers-read : (c : tie.After-connection-at Inv-loop μ-loop) → Numbers (c .connection-at .result)
 numbers-read c =
     let l = c .before .before .loop in
-    let a = c .before .before .before .before .before .before .before in
+    let a = c .before .before .before .before .before .before in
     turn-numbers (records (a .args .bytes .now)) (l .i) (inside (c .before)) (a .pre .1) (c .connection-at .result) (connection-read c)
 
 -- the tree so far is one
 treed : (c : tie.After-connection-at Inv-loop μ-loop) → IsTree (c .before .before .loop .s .tree .bytes)
 treed c =
     let l = c .before .before .loop in
-    taken-tree (records (c .before .before .before .before .before .before .before .args .bytes .now)) (l .i) (l .s .connections) (l .s .tree .bytes) (l .inv .2)
+    taken-tree (records (c .before .before .before .before .before .before .args .bytes .now)) (l .i) (l .s .connections) (l .s .tree .bytes) (l .inv .2)
 
 handle-read : (c : tie.After-handle-at Inv-loop μ-loop)
-    → c .handle-at .result ≡ handleIn (nth (records (c .before .before .before .before .before .before .before .before .before .before .before .before .before .before .before .before .args .bytes .now)) (c .before .before .before .before .before .before .before .before .before .before .before .loop .i))
+    → c .handle-at .result ≡ handleIn (nth (records (c .before .before .before .before .before .before .before .before .before .before .before .before .before .before .before .args .bytes .now)) (c .before .before .before .before .before .before .before .before .before .before .before .loop .i))
 handle-read c = c .handle-at .ensures _ (here (c .before .before .before .before .before .before .before .before .before .before))
 
 handle-small : (c : tie.After-handle-at Inv-loop μ-loop) → c .handle-at .result < handles
 handle-small c =
     let r = c .before .before .before .before .before .before .before .before .before in
     let l = r .before .before .loop in
-    let a = r .before .before .before .before .before .before .before in
+    let a = r .before .before .before .before .before .before in
     rw (handle-read c) (turn-handle (records (a .args .bytes .now)) (l .i) (inside (r .before)) (a .pre .1) (r .connection-at .result) (connection-read r))
 
 cast-k : tie.Need-cast-k Inv-loop μ-loop
@@ -141,7 +138,7 @@ next-requires-2 c κs = omega (arith, room (c .before .before .before .before .b
 add-i : tie.Need-add-i Inv-loop μ-loop
 add-i c =
     let r = c .before .before .before .before .before .before .before .before .before .before in
-    let a = r .before .before .before .before .before .before .before in
+    let a = r .before .before .before .before .before .before in
     omega (arith, r .before .loop-test .taken, framed-exactly (a .args .bytes .now) (a .args .n) (a .pre .0) .most)
 
 loop-less : tie.Need-loop-less Inv-loop μ-loop
@@ -154,7 +151,7 @@ loop-again c =
     let f = s .before .before .before in
     let r = f .before .before .before .before .before in
     let l = r .before .before .loop in
-    let b = r .before .before .before .before .before .before in
+    let b = r .before .before .before .before .before in
     let a = b .before in (
       omega arith,
       cursor-next (a .args .bytes .now) (a .args .n) (a .pre .0) (small b) (l .i) (r .before .loop-test .taken) (l .cursor) (l .inv .1) (c .next2 .result) (c .next2 .ensures),
@@ -167,7 +164,7 @@ loop-again c =
 returns : tie.Need-returns Inv-loop μ-loop
 returns c =
     let l = c .before .loop in
-    let b = c .before .before .before .before .before in
+    let b = c .before .before .before .before in
     let a = b .before in
     restores-all (a .args .bytes .now) (l .i) (l .s .connections) (l .s .tree .bytes) (l .inv .2) _ refl refl (l .inv .1) (omega (arith, connections-long (a .args .bytes .now) (a .args .n) (a .pre .0) (small b))) (l .inv .3)
 
@@ -176,7 +173,7 @@ returns-2 c =
     let f = c .before in
     let r = f .before .before .before .before .before in
     let l = r .before .before .loop in
-    let a = r .before .before .before .before .before .before .before in
+    let a = r .before .before .before .before .before .before in
     restores-not (a .args .bytes .now) (l .i) (l .s .connections) (l .s .tree .bytes) (l .inv .2) _ refl refl (l .inv .1) (inside (r .before)) (a .pre .1) refl
     (turn-clash (records (a .args .bytes .now)) (l .i) (inside (r .before)) (a .pre .1) (r .connection-at .result) (connection-read r)
     (l .s .connections) (l .s .tree .bytes) (l .inv .2) (λ g e. sym (not-true (f .run-free .result) (c .if1 .taken)) ∙ f .run-free .ensures g e))
@@ -187,8 +184,7 @@ restore-spec =
     (tie.spec
     Inv-loop
     μ-loop
-    nobody-requires
-    empty-requires
+    fresh-requires
     next-requires
     loop-holds
     connection-at-requires

@@ -1,0 +1,2 @@
+-- What the writing of an answer promises.
+pub mod Promises

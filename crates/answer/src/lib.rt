@@ -1,0 +1,130 @@
+//! The words of an answer, written at a place, and its line.
+ghost use Prim.Native.Nat.{_+_, _≤_};
+ghost use lib.ListN.{length};
+ghost use Rattle.rules.specs.Answers.{ok, ofAdmission, ofDropping, ofReporting, ofOwnership, ofDistance, ofSaving, ofLoading, ofReply};
+ghost use Rattle.rules.specs.Words.{longestAnswer};
+ghost use Rattle.answer.specs.Promises.{PutsWords, PutsAnswer, SizeFits};
+use rules::Admission;
+use rules::Distance;
+use rules::Dropping;
+use rules::Loading;
+use rules::Ownership;
+use rules::Reply;
+use rules::Reporting;
+use rules::Saving;
+use text::put_count;
+use text::put_refused;
+use text::put_spaced;
+use text::put_word;
+
+fn put_placed(out: &mut [u8], at: usize, factor: u16, anchor: u16, blocks: u16) -> usize
+    requires { ⌜ at + longestAnswer ≤ length (now out) ⌝ }
+    ensures { λ r. ⌜ PutsWords (now (out .entry)) at (ok factor anchor blocks) (now (out .exit)) r ⌝ }
+{
+    let a = put_word(out, at, b"ok");
+    let b = put_spaced(out, a, factor as u32);
+    let c = put_spaced(out, b, anchor as u32);
+    put_spaced(out, c, blocks as u32)
+}
+
+fn put_admission(out: &mut [u8], at: usize, answer: Admission) -> usize
+    requires { ⌜ at + longestAnswer ≤ length (now out) ⌝ }
+    ensures { λ r. ⌜ PutsWords (now (out .entry)) at (ofAdmission answer) (now (out .exit)) r ⌝ }
+{
+    match answer {
+        Admission::Placed {
+            factor,
+            anchor,
+            length,
+        } => put_placed(out, at, factor, anchor, length),
+        Admission::Refused(r) => put_refused(out, at, r),
+    }
+}
+
+fn put_dropping(out: &mut [u8], at: usize, answer: Dropping) -> usize
+    requires { ⌜ at + longestAnswer ≤ length (now out) ⌝ }
+    ensures { λ r. ⌜ PutsWords (now (out .entry)) at (ofDropping answer) (now (out .exit)) r ⌝ }
+{
+    match answer {
+        Dropping::Done => put_word(out, at, b"ok"),
+        Dropping::Refused(r) => put_refused(out, at, r),
+    }
+}
+
+fn put_reporting(out: &mut [u8], at: usize, answer: Reporting) -> usize
+    requires { ⌜ at + longestAnswer ≤ length (now out) ⌝ }
+    ensures { λ r. ⌜ PutsWords (now (out .entry)) at (ofReporting answer) (now (out .exit)) r ⌝ }
+{
+    match answer {
+        Reporting::Kept(length) => put_count(out, at, b"kept", length as u32),
+        Reporting::Grown(length) => put_count(out, at, b"grown", length as u32),
+        Reporting::Shrunk(length) => put_count(out, at, b"shrunk", length as u32),
+        Reporting::Tight(length) => put_count(out, at, b"tight", length as u32),
+        Reporting::Refused(r) => put_refused(out, at, r),
+    }
+}
+
+fn put_ownership(out: &mut [u8], at: usize, answer: Ownership) -> usize
+    requires { ⌜ at + longestAnswer ≤ length (now out) ⌝ }
+    ensures { λ r. ⌜ PutsWords (now (out .entry)) at (ofOwnership answer) (now (out .exit)) r ⌝ }
+{
+    match answer {
+        Ownership::Handle(handle) => put_count(out, at, b"owner", handle as u32),
+        Ownership::Idle => put_word(out, at, b"idle"),
+    }
+}
+
+fn put_distance(out: &mut [u8], at: usize, answer: Distance) -> usize
+    requires { ⌜ at + longestAnswer ≤ length (now out) ⌝ }
+    ensures { λ r. ⌜ PutsWords (now (out .entry)) at (ofDistance answer) (now (out .exit)) r ⌝ }
+{
+    match answer {
+        Distance::Slots(n) => put_count(out, at, b"slots", n),
+        Distance::Refused(r) => put_refused(out, at, r),
+    }
+}
+
+/// The words of a save's answer.
+pub fn put_saving(out: &mut [u8], at: usize, answer: Saving) -> usize
+    requires { ⌜ SizeFits answer × (at + longestAnswer ≤ length (now out)) ⌝ }
+    ensures { λ r. ⌜ PutsWords (now (out .entry)) at (ofSaving answer) (now (out .exit)) r ⌝ }
+{
+    match answer {
+        Saving::Size(size) => put_count(out, at, b"saved", size as u32),
+        Saving::Refused(r) => put_refused(out, at, r),
+    }
+}
+
+/// The words of a load's answer.
+pub fn put_loading(out: &mut [u8], at: usize, answer: Loading) -> usize
+    requires { ⌜ at + longestAnswer ≤ length (now out) ⌝ }
+    ensures { λ r. ⌜ PutsWords (now (out .entry)) at (ofLoading answer) (now (out .exit)) r ⌝ }
+{
+    match answer {
+        Loading::Count(n) => put_count(out, at, b"loaded", n as u32),
+        Loading::Refused(r) => put_refused(out, at, r),
+    }
+}
+
+// The words of a command's answer.
+fn put_words(out: &mut [u8], at: usize, reply: Reply) -> usize
+    requires { ⌜ at + longestAnswer ≤ length (now out) ⌝ }
+    ensures { λ r. ⌜ PutsWords (now (out .entry)) at (ofReply reply) (now (out .exit)) r ⌝ }
+{
+    match reply {
+        Reply::Admission(answer) => put_admission(out, at, answer),
+        Reply::Dropping(answer) => put_dropping(out, at, answer),
+        Reply::Reporting(answer) => put_reporting(out, at, answer),
+        Reply::Ownership(answer) => put_ownership(out, at, answer),
+        Reply::Distance(answer) => put_distance(out, at, answer),
+    }
+}
+
+/// The line of a command's answer.
+pub fn put_reply(out: &mut [u8], at: usize, reply: Reply) -> usize
+    requires { ⌜ at + longestAnswer ≤ length (now out) ⌝ }
+    ensures { λ r. ⌜ PutsAnswer (now (out .entry)) at (ofReply reply) (now (out .exit)) r ⌝ }
+{
+    let a = put_words(out, at, reply);
+    put_word(out, a, b"\n")
+}

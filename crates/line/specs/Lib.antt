@@ -1,2 +1,0 @@
--- What the reading and writing of a line promises.
-pub mod Promises
