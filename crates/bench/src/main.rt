@@ -15,6 +15,7 @@ use questions::anchor;
 use questions::owner;
 use rules::Command;
 use rules::LONGEST_ANSWER;
+use rules::Loading;
 use rules::Reply;
 use rules::Saving;
 use rules::Schedule;
@@ -37,6 +38,13 @@ fn tell(reply: Reply) {
     let mut out = [0u8; LONGEST_ANSWER];
     let count = put_reply(&mut out, 0, reply);
     word(&out[..count]);
+}
+
+fn tell_loading(answer: Loading) {
+    let mut out = [0u8; LONGEST_ANSWER];
+    let count = put_loading(&mut out, 0, answer);
+    word(&out[..count]);
+    end();
 }
 
 fn admitted(s: Schedule, handle: u32, interval: u32, floor: u32, ceiling: u32) -> Schedule
@@ -121,10 +129,7 @@ fn loaded(s: Schedule, bytes: &[u8]) -> Schedule
     let left = done.schedule;
     mark();
     let answer = done.answer;
-    let mut out = [0u8; LONGEST_ANSWER];
-    let count = put_loading(&mut out, 0, answer);
-    word(&out[..count]);
-    end();
+    tell_loading(answer);
     left
 }
 
