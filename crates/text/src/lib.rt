@@ -12,6 +12,7 @@ pub use writing::put_decimal;
 pub use writing::put_refused;
 pub use writing::put_spaced;
 pub use writing::put_word;
+pub use writing::refusal_number;
 
 /// How many numbers a row has; or the bytes are no row that the lent slice takes.
 pub enum Row {

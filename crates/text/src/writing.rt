@@ -53,8 +53,8 @@ pub fn put_count(out: &mut [u8], at: usize, word: &[u8], n: u32) -> usize
     put_spaced(out, a, n)
 }
 
-// The table's number of a refusal.
-fn refusal_number(r: Refusal) -> u32
+/// The table's number of a refusal.
+pub fn refusal_number(r: Refusal) -> u32
     ensures { λ n. ⌜ n ≡ number r ⌝ }
 {
     match r {

@@ -1,0 +1,120 @@
+/* The radio schedule of a growing house, for C and C++.
+ *
+ * Link target/staticlib/libdoor.a, which c/run builds; of a libc it needs memcpy and memset, and nothing else. x86-64 Linux only.
+ *
+ * Every number and every byte that a call is given is answered by the rule sheet. What the caller must keep to, as nothing checks it:
+ *  - a struct beak is all zeros, or what beak_fresh gave, or what a call left, or a copy of such a one: nobody else writes its bytes;
+ *  - one call at a time on a struct beak: no other thread reads or writes it meanwhile;
+ *  - as long as a call runs, its image can be read and its buffer written, and neither overlaps the other or the schedule;
+ *  - to an export itself the pointer of an image or a buffer is not null, even for no bytes: the functions on a pointer see to that.
+ */
+#ifndef BEAK_H
+#define BEAK_H
+#include <stddef.h>
+#include <stdint.h>
+
+#ifdef __cplusplus
+#define BEAK_HOLDS(fact) static_assert(fact, "what the archive was built for")
+#define BEAK_ALIGNMENT(type) alignof(type)
+extern "C" {
+#else
+#define BEAK_HOLDS(fact) _Static_assert(fact, "what the archive was built for")
+#define BEAK_ALIGNMENT(type) _Alignof(type)
+#endif
+
+/* A schedule. All zeros is a fresh one, so that a static struct beak needs no start. */
+struct beak {
+    uint32_t opaque[288];
+};
+
+/* What a call says: its kind, and the kind's values in the order in which they stand here; the others are 0. */
+enum beak_kind {
+    BEAK_REFUSED = 1, /* the refusal's number */
+    BEAK_PLACED = 2,  /* factor, anchor, length */
+    BEAK_DROPPED = 3,
+    BEAK_KEPT = 4,    /* length */
+    BEAK_GROWN = 5,   /* length */
+    BEAK_SHRUNK = 6,  /* length */
+    BEAK_TIGHT = 7,   /* length */
+    BEAK_OWNER = 8,   /* handle */
+    BEAK_IDLE = 9,
+    BEAK_SLOTS = 10,  /* slots */
+    BEAK_SAVED = 11,  /* size of the image in bytes */
+    BEAK_LOADED = 12  /* connections of the image */
+};
+struct beak_said {
+    uint32_t kind, first, second, third;
+};
+
+/* ---- what the archive has: a schedule by value, and the one that the call leaves beside what it says */
+struct beak_called {
+    struct beak_said said;
+    struct beak schedule;
+};
+
+BEAK_HOLDS(sizeof(size_t) == 8 && sizeof(void *) == 8);
+BEAK_HOLDS(sizeof(struct beak) == 1152 && BEAK_ALIGNMENT(struct beak) == 4);
+BEAK_HOLDS(sizeof(struct beak_said) == 16 && BEAK_ALIGNMENT(struct beak_said) == 4);
+BEAK_HOLDS(sizeof(struct beak_called) == 1168 && offsetof(struct beak_called, schedule) == 16);
+
+struct beak beak_fresh(void);
+struct beak_called beak_admitted(struct beak s, uint32_t handle, uint32_t interval, uint32_t floor, uint32_t ceiling);
+struct beak_called beak_dropped(struct beak s, uint32_t handle);
+struct beak_called beak_reported(struct beak s, uint32_t handle, uint32_t sample);
+struct beak_called beak_loaded(struct beak s, const uint8_t *bytes, size_t size);
+struct beak_said beak_saved(struct beak s, uint8_t *buffer, size_t room);
+struct beak_said beak_owned(struct beak s, uint32_t block);
+struct beak_said beak_anchored(struct beak s, uint32_t handle, uint32_t block);
+
+/* ---- the calls, on a schedule behind a pointer; a refused one leaves it as it was */
+/* Admit a connection: PLACED. Refused: 1 handle above 63, 2 handle live, 4 interval outside 6 to 3,200 slots, 5 floor or ceiling wrong, 6 no open anchor. */
+static inline struct beak_said beak_admit(struct beak *s, uint32_t handle, uint32_t interval, uint32_t floor, uint32_t ceiling) {
+    struct beak_called r = beak_admitted(*s, handle, interval, floor, ceiling);
+    *s = r.schedule;
+    return r.said;
+}
+
+/* Drop a connection: DROPPED. Refused: 1 handle above 63, 3 handle not live. */
+static inline struct beak_said beak_drop(struct beak *s, uint32_t handle) {
+    struct beak_called r = beak_dropped(*s, handle);
+    *s = r.schedule;
+    return r.said;
+}
+
+/* Report the microseconds used in the last run: KEPT, GROWN, SHRUNK or TIGHT. Refused: 1 handle above 63, 3 handle not live, 7 sample above the run. */
+static inline struct beak_said beak_report(struct beak *s, uint32_t handle, uint32_t sample) {
+    struct beak_called r = beak_reported(*s, handle, sample);
+    *s = r.schedule;
+    return r.said;
+}
+
+/* Load an image in place of the schedule: LOADED. Refused: 9 records wrong, 10 numbers not sound, 11 a block owned twice, 12 tree bytes wrong. */
+static inline struct beak_said beak_load(struct beak *s, const uint8_t *bytes, size_t size) {
+    const uint8_t none = 0;
+    struct beak_called r = beak_loaded(*s, size != 0 ? bytes : &none, size);
+    *s = r.schedule;
+    return r.said;
+}
+
+/* Save the image from the buffer's start, at most 1,290 bytes: SAVED. Refused: 8 buffer shorter than the image. */
+static inline struct beak_said beak_save(const struct beak *s, uint8_t *buffer, size_t room) {
+    uint8_t none = 0;
+    return beak_saved(*s, room != 0 ? buffer : &none, room);
+}
+
+/* Whose block it is: OWNER or IDLE. Never refused. */
+static inline struct beak_said beak_owner(const struct beak *s, uint32_t block) {
+    return beak_owned(*s, block);
+}
+
+/* Slots from the start of the block to the connection's next anchor: SLOTS. Refused: 1 handle above 63, 3 handle not live. */
+static inline struct beak_said beak_anchor(const struct beak *s, uint32_t handle, uint32_t block) {
+    return beak_anchored(*s, handle, block);
+}
+
+#ifdef __cplusplus
+}
+#endif
+#undef BEAK_HOLDS
+#undef BEAK_ALIGNMENT
+#endif

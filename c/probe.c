@@ -1,0 +1,195 @@
+/* The probe's script language (docs/PROBE.md) over beak.h, so that tests/differential holds what a C program gets against the peer.
+ * With -DBEAK_COUNTED each call stands between two marks, as bench/run counts them. */
+#include <stdbool.h>
+#include <stdio.h>
+#include <string.h>
+#include "beak.h"
+
+enum { LONGEST_SCRIPT = 65536, LARGEST_BUFFER = 2048, LARGEST_IMAGE = 1290 };
+
+static struct beak s; /* static, so all zeros: fresh */
+static char script[LONGEST_SCRIPT + 1];
+static uint8_t bytes[LONGEST_SCRIPT / 2];
+
+#ifdef BEAK_COUNTED
+#include <unistd.h>
+static void mark(void) { (void)!write(1, "", 0); }
+#else
+static void mark(void) {}
+#endif
+
+/* ---- reading a line */
+
+/* What is left of a line. */
+struct rest {
+    const char *at, *end;
+};
+
+static bool ends(struct rest r) { return r.at == r.end; }
+
+/* Whether the line goes on with this word, which is then passed. */
+static bool passes(struct rest *r, const char *word) {
+    size_t size = strlen(word);
+    if ((size_t)(r->end - r->at) < size || memcmp(r->at, word, size) != 0) return false;
+    r->at += size;
+    return true;
+}
+
+/* A decimal number with no leading zero, at most 2^32 - 1. */
+static bool number(struct rest *r, uint32_t *n) {
+    const char *start = r->at;
+    uint64_t value = 0;
+    while (!ends(*r) && *r->at >= '0' && *r->at <= '9' && value <= UINT32_MAX) value = value * 10 + (uint64_t)(*r->at++ - '0');
+    *n = (uint32_t)value;
+    return r->at != start && value <= UINT32_MAX && (*start != '0' || r->at - start == 1);
+}
+
+/* So many numbers, one space before each, and then the line's end. */
+static bool numbers(struct rest r, int count, uint32_t *n) {
+    while (count-- > 0)
+        if (!passes(&r, " ") || !number(&r, n++)) return false;
+    return ends(r);
+}
+
+static int nibble(char c) {
+    if (c >= '0' && c <= '9') return c - '0';
+    return c >= 'a' && c <= 'f' ? c - 'a' + 10 : -1;
+}
+
+/* One pair of hexadecimal digits at least, into the bytes; or none. */
+static size_t pairs(struct rest r) {
+    size_t size = 0;
+    for (; r.end - r.at >= 2; r.at += 2) {
+        int high = nibble(r.at[0]), low = nibble(r.at[1]);
+        if (high < 0 || low < 0) return 0;
+        bytes[size++] = (uint8_t)(16 * high + low);
+    }
+    return ends(r) ? size : 0;
+}
+
+/* ---- printing an answer */
+
+static void print_bytes(size_t count) {
+    for (size_t i = 0; i < count; i++) printf("%02x", bytes[i]);
+}
+
+static void print(struct beak_said r) {
+    static const char *const words[] = {"?", "no", "ok", "ok", "kept", "grown", "shrunk", "tight", "owner", "idle", "slots", "saved", "loaded"};
+    printf("%s", r.kind <= BEAK_LOADED ? words[r.kind] : words[0]);
+    if (r.kind == BEAK_PLACED)
+        printf(" %u %u %u", r.first, r.second, r.third);
+    else if (r.kind != BEAK_DROPPED && r.kind != BEAK_IDLE)
+        printf(" %u", r.first);
+}
+
+static uint32_t little(const uint8_t *b, int width) { return width == 0 ? 0 : b[0] + (little(b + 1, width - 1) << 8); }
+
+/* The connections, from the image's records of 18 bytes. */
+static void print_state(void) {
+    struct beak_said r = beak_save(&s, bytes, LARGEST_IMAGE);
+    for (const uint8_t *b = bytes + 6; b + 132 < bytes + r.first; b += 18)
+        printf("%u %u %u %u %u %u %u\n", b[4], b[5], little(b + 6, 2), little(b + 8, 2), little(b + 10, 2), little(b + 12, 2), little(b + 14, 4));
+    printf("end");
+}
+
+/* ---- a line: each takes what follows its word, and says whether it was one */
+
+static bool command(struct rest r) {
+    uint32_t n[4];
+    struct beak_said said;
+    if (passes(&r, "admit")) {
+        if (!numbers(r, 4, n)) return false;
+        mark();
+        said = beak_admit(&s, n[0], n[1], n[2], n[3]);
+    } else if (passes(&r, "drop")) {
+        if (!numbers(r, 1, n)) return false;
+        mark();
+        said = beak_drop(&s, n[0]);
+    } else if (passes(&r, "report")) {
+        if (!numbers(r, 2, n)) return false;
+        mark();
+        said = beak_report(&s, n[0], n[1]);
+    } else if (passes(&r, "owner")) {
+        if (!numbers(r, 1, n)) return false;
+        mark();
+        said = beak_owner(&s, n[0]);
+    } else if (passes(&r, "anchor")) {
+        if (!numbers(r, 2, n)) return false;
+        mark();
+        said = beak_anchor(&s, n[0], n[1]);
+    } else
+        return false;
+    mark();
+    print(said);
+    return true;
+}
+
+static bool save(struct rest r) {
+    uint32_t room;
+    if (ends(r)) {
+        struct beak_said said = beak_save(&s, bytes, LARGEST_IMAGE);
+        printf("image ");
+        print_bytes(said.first);
+        return true;
+    }
+    if (!numbers(r, 1, &room) || room > LARGEST_BUFFER) return false;
+    memset(bytes, 0xA5, room);
+    mark();
+    struct beak_said said = beak_save(&s, bytes, room);
+    mark();
+    print(said);
+    if (room != 0) printf(" ");
+    print_bytes(room);
+    return true;
+}
+
+static bool load(struct rest r) {
+    size_t size = 0;
+    if (!ends(r)) {
+        if (!passes(&r, " ")) return false;
+        size = pairs(r);
+        if (size == 0) return false;
+    }
+    mark();
+    struct beak_said said = beak_load(&s, bytes, size);
+    mark();
+    print(said);
+    return true;
+}
+
+static bool line(struct rest r) {
+    if (passes(&r, "save")) return save(r);
+    if (passes(&r, "load")) return load(r);
+    if (passes(&r, "state")) {
+        if (ends(r)) print_state();
+        return ends(r);
+    }
+    if (passes(&r, "fresh")) {
+        if (!ends(r)) return false;
+        s = beak_fresh();
+        printf("ok");
+        return true;
+    }
+    return command(r);
+}
+
+int main(void) {
+    size_t size = fread(script, 1, sizeof script, stdin);
+    if (size > LONGEST_SCRIPT) {
+        puts("long");
+        return 0;
+    }
+    struct rest r = {script, script + size};
+    while (!ends(r)) {
+        const char *next = (const char *)memchr(r.at, '\n', (size_t)(r.end - r.at));
+        struct rest here = {r.at, next};
+        if (next == NULL || !line(here)) {
+            mark();
+            mark();
+            printf("bad");
+        }
+        printf("\n");
+        r.at = next != NULL ? next + 1 : r.end;
+    }
+    return 0;
+}

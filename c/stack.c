@@ -1,0 +1,71 @@
+/* How much stack each call takes, with the copies of beak.h: it is made on a stack that was painted before, and from the deepest byte that is
+ * no longer paint on it is counted. Of each call the case that goes deepest: the whole tree taken or given back, or a full house. */
+#include <stdio.h>
+#include <string.h>
+#include <ucontext.h>
+#include "beak.h"
+
+enum { PAINT = 0xA5 };
+
+static struct beak s;
+static struct beak_said said;
+static uint8_t image[1290], painted[65536];
+static size_t size;
+static ucontext_t here, there;
+
+static void nothing(void) {}
+static void admit_whole(void) { said = beak_admit(&s, 0, 6, 1, 1); }
+static void admit_longest(void) { said = beak_admit(&s, 0, 3072, 512, 512); }
+static void admit_half(void) { said = beak_admit(&s, 0, 12, 1, 2); }
+static void drop(void) { said = beak_drop(&s, 0); }
+static void report(void) { said = beak_report(&s, 0, 7500); }
+static void owner(void) { said = beak_owner(&s, 511); }
+static void anchor(void) { said = beak_anchor(&s, 63, 7); }
+static void load(void) { said = beak_load(&s, image, size); }
+static void save(void) {
+    said = beak_save(&s, image, sizeof image);
+    size = said.first;
+}
+
+static void fresh(void) { s = beak_fresh(); }
+
+static void fill(void) {
+    fresh();
+    for (uint32_t handle = 0; handle < 64; handle++) said = beak_admit(&s, handle, 3072, 8, 8);
+}
+
+static size_t touched(void (*call)(void)) {
+    size_t low = 0;
+    memset(painted, PAINT, sizeof painted);
+    getcontext(&there);
+    there.uc_stack.ss_sp = painted;
+    there.uc_stack.ss_size = sizeof painted;
+    there.uc_link = &here;
+    makecontext(&there, call, 0);
+    swapcontext(&here, &there);
+    while (low < sizeof painted && painted[low] == PAINT) low++;
+    return sizeof painted - low;
+}
+
+static void measure(const char *call, const char *which, void (*made)(void)) {
+    size_t all = touched(made);
+    printf("%s|%s|%zu\n", call, which, all - touched(nothing));
+}
+
+int main(void) {
+    measure("admit", "the whole tree", admit_whole);
+    save();
+    measure("drop", "the whole tree", drop);
+    measure("load", "the whole tree", load);
+    fresh();
+    measure("admit", "a run of 512 blocks", admit_longest);
+    fresh();
+    admit_half();
+    measure("report", "grown, half of the tree", report);
+    fill();
+    measure("owner", "64 live", owner);
+    measure("anchor", "of a live connection", anchor);
+    measure("save", "64 live", save);
+    measure("load", "64 live", load);
+    return 0;
+}

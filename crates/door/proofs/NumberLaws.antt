@@ -1,0 +1,61 @@
+-- Two answers with the same numbers are equal; and so are two results that meet an export's statement.
+use Prim.Native.Nat.{ℕ}
+use mathlib.Core.Path.{_≡_, refl, sym, ap, _∙_}
+use mathlib.Core.Bool.{cond}
+use mathlib.Core.List.{List}
+use lib.Dec.{eqb}
+use Rattle.rules.specs.Answers.{Answer, Outcome, refused, ok, dropped, kept, grown, shrunk, tight, owner, idle, slots, saved, loaded}
+use Rattle.rules.specs.Save.{Written}
+use Rattle.door.specs.declared.Said.{Said}
+use Rattle.door.specs.declared.Called.{Called}
+use Rattle.door.specs.Numbers.{numbers, Says}
+use Rattle.door.specs.Promises.{Leaves, Writes}
+
+-- The answer that numbers are of.
+unfoldable readBack : Said → Answer
+readBack s =
+    cond (eqb (s .kind) 1) (refused (s .first)) (
+    cond (eqb (s .kind) 2) (ok (s .first) (s .second) (s .third)) (
+    cond (eqb (s .kind) 3) dropped (
+    cond (eqb (s .kind) 4) (kept (s .first)) (
+    cond (eqb (s .kind) 5) (grown (s .first)) (
+    cond (eqb (s .kind) 6) (shrunk (s .first)) (
+    cond (eqb (s .kind) 7) (tight (s .first)) (
+    cond (eqb (s .kind) 8) (owner (s .first)) (
+    cond (eqb (s .kind) 9) idle (
+    cond (eqb (s .kind) 10) (slots (s .first)) (
+    cond (eqb (s .kind) 11) (saved (s .first)) (
+    loaded (s .first))))))))))))
+
+read-back : (a : Answer) → readBack (numbers a) ≡ a
+unfolding readBack
+read-back (refused n) = refl
+read-back (ok F A L) = refl
+read-back dropped = refl
+read-back (kept L) = refl
+read-back (grown L) = refl
+read-back (shrunk L) = refl
+read-back (tight L) = refl
+read-back (owner h) = refl
+read-back idle = refl
+read-back (slots n) = refl
+read-back (saved n) = refl
+read-back (loaded n) = refl
+
+-- Of all answers, whatever their values.
+pub numbers-injective : (a b : Answer) → numbers a ≡ numbers b → a ≡ b
+numbers-injective a b e = sym (read-back a) ∙ ap readBack e ∙ read-back b
+
+-- What C is told says which answer it is.
+pub says-injective : (a b : Answer) (r : Said) → Says a r → Says b r → a ≡ b
+says-injective a b r p q = numbers-injective a b (sym p ∙ q)
+
+-- ---- two results that meet a statement are equal, the buffer too
+pub says-unique : (a : Answer) (r t : Said) → Says a r → Says a t → r ≡ t
+says-unique a r t p q = p ∙ sym q
+
+pub leaves-unique : (o : Outcome) (r t : Called) → Leaves o r → Leaves o t → r ≡ t
+leaves-unique o r t p q = p .is ∙ sym (q .is)
+
+pub writes-unique : (w : Written) (x y : List ℕ) (r t : Said) → Writes w x r → Writes w y t → (r ≡ t) × (x ≡ y)
+writes-unique w x y r t p q = (says-unique (w .answer) r t (p .says) (q .says), p .bytes ∙ sym (q .bytes))

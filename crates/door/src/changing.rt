@@ -1,0 +1,70 @@
+//! The calls that change a schedule: it comes by value, and goes back beside the answer.
+//! Each has the answer in numbers before it takes the schedule: the other way round the schedule is copied once more.
+ghost use mathlib.Core.Path.{_≡_};
+ghost use Rattle.rules.specs.Good.{Good, fresh as freshRule};
+ghost use Rattle.rules.specs.Admit.{admit as admitRule};
+ghost use Rattle.rules.specs.Drop.{dropHandle};
+ghost use Rattle.rules.specs.Report.{report as reportRule};
+ghost use Rattle.door.specs.Promises.{Leaves};
+use crate::Called;
+use crate::saying::admission;
+use crate::saying::dropping;
+use crate::saying::reporting;
+use rules::Schedule;
+use schedule::admit;
+use schedule::drop;
+use schedule::fresh;
+use schedule::report;
+
+/// A fresh schedule: every byte of it is 0.
+#[no_mangle]
+pub extern "C" fn beak_fresh() -> Schedule
+    ensures { λ r. ⌜ (r ≡ freshRule) × Good r ⌝ }
+{
+    fresh()
+}
+
+/// Admit.
+#[no_mangle]
+pub extern "C" fn beak_admitted(
+    s: Schedule,
+    handle: u32,
+    interval: u32,
+    floor: u32,
+    ceiling: u32,
+) -> Called
+    requires { ⌜ Good s ⌝ }
+    ensures { λ r. ⌜ Leaves (admitRule s handle interval floor ceiling) r ⌝ }
+{
+    let done = admit(s, handle, interval, floor, ceiling);
+    let answer = done.answer;
+    let said = admission(answer);
+    let schedule = done.schedule;
+    Called { said, schedule }
+}
+
+/// Drop.
+#[no_mangle]
+pub extern "C" fn beak_dropped(s: Schedule, handle: u32) -> Called
+    requires { ⌜ Good s ⌝ }
+    ensures { λ r. ⌜ Leaves (dropHandle s handle) r ⌝ }
+{
+    let done = drop(s, handle);
+    let answer = done.answer;
+    let said = dropping(answer);
+    let schedule = done.schedule;
+    Called { said, schedule }
+}
+
+/// Report.
+#[no_mangle]
+pub extern "C" fn beak_reported(s: Schedule, handle: u32, sample: u32) -> Called
+    requires { ⌜ Good s ⌝ }
+    ensures { λ r. ⌜ Leaves (reportRule s handle sample) r ⌝ }
+{
+    let done = report(s, handle, sample);
+    let answer = done.answer;
+    let said = reporting(answer);
+    let schedule = done.schedule;
+    Called { said, schedule }
+}

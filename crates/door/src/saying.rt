@@ -1,0 +1,130 @@
+//! What each answer is in numbers.
+ghost use mathlib.Core.Path.{_≡_};
+ghost use Rattle.rules.specs.Refusals.{number};
+ghost use Rattle.rules.specs.Answers.{refused as refusedWith, saved as savedAs, ofAdmission, ofDropping, ofReporting, ofOwnership, ofDistance, ofLoading};
+ghost use Rattle.door.specs.Numbers.{says as saysOf, Says};
+use crate::Said;
+use rules::Admission;
+use rules::Distance;
+use rules::Dropping;
+use rules::Loading;
+use rules::Ownership;
+use rules::Refusal;
+use rules::Reporting;
+use text::refusal_number;
+
+// The kinds of an answer, numbered for ever: a later one comes at the end.
+const REFUSED: u32 = 1;
+
+const PLACED: u32 = 2;
+
+const DROPPED: u32 = 3;
+
+const KEPT: u32 = 4;
+
+const GROWN: u32 = 5;
+
+const SHRUNK: u32 = 6;
+
+const TIGHT: u32 = 7;
+
+const OWNER: u32 = 8;
+
+const IDLE: u32 = 9;
+
+const SLOTS: u32 = 10;
+
+const SAVED: u32 = 11;
+
+const LOADED: u32 = 12;
+
+// An answer with one value, or with none.
+fn say(kind: u32, first: u32) -> Said
+    ensures { λ r. ⌜ r ≡ saysOf kind first 0 0 ⌝ }
+{
+    Said {
+        kind,
+        first,
+        second: 0,
+        third: 0,
+    }
+}
+
+pub fn refused(r: Refusal) -> Said
+    ensures { λ s. ⌜ Says (refusedWith (number r)) s ⌝ }
+{
+    say(REFUSED, refusal_number(r))
+}
+
+pub fn admission(answer: Admission) -> Said
+    ensures { λ r. ⌜ Says (ofAdmission answer) r ⌝ }
+{
+    match answer {
+        Admission::Placed {
+            factor,
+            anchor,
+            length,
+        } => Said {
+            kind: PLACED,
+            first: factor as u32,
+            second: anchor as u32,
+            third: length as u32,
+        },
+        Admission::Refused(r) => refused(r),
+    }
+}
+
+pub fn dropping(answer: Dropping) -> Said
+    ensures { λ r. ⌜ Says (ofDropping answer) r ⌝ }
+{
+    match answer {
+        Dropping::Done => say(DROPPED, 0),
+        Dropping::Refused(r) => refused(r),
+    }
+}
+
+pub fn reporting(answer: Reporting) -> Said
+    ensures { λ r. ⌜ Says (ofReporting answer) r ⌝ }
+{
+    match answer {
+        Reporting::Kept(length) => say(KEPT, length as u32),
+        Reporting::Grown(length) => say(GROWN, length as u32),
+        Reporting::Shrunk(length) => say(SHRUNK, length as u32),
+        Reporting::Tight(length) => say(TIGHT, length as u32),
+        Reporting::Refused(r) => refused(r),
+    }
+}
+
+pub fn ownership(answer: Ownership) -> Said
+    ensures { λ r. ⌜ Says (ofOwnership answer) r ⌝ }
+{
+    match answer {
+        Ownership::Handle(handle) => say(OWNER, handle as u32),
+        Ownership::Idle => say(IDLE, 0),
+    }
+}
+
+pub fn distance(answer: Distance) -> Said
+    ensures { λ r. ⌜ Says (ofDistance answer) r ⌝ }
+{
+    match answer {
+        Distance::Slots(n) => say(SLOTS, n),
+        Distance::Refused(r) => refused(r),
+    }
+}
+
+// A save's size, which fits: an image has 1,290 bytes at most.
+pub fn saved(size: u32) -> Said
+    ensures { λ r. ⌜ Says (savedAs size) r ⌝ }
+{
+    say(SAVED, size)
+}
+
+pub fn loading(answer: Loading) -> Said
+    ensures { λ r. ⌜ Says (ofLoading answer) r ⌝ }
+{
+    match answer {
+        Loading::Count(n) => say(LOADED, n as u32),
+        Loading::Refused(r) => refused(r),
+    }
+}
