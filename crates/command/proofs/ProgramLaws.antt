@@ -15,7 +15,7 @@ use Rattle.rules.specs.Answers.{Answer, refused, ok, dropped, kept, grown, shru
 use Rattle.rules.specs.Obey.{obey}
 use Rattle.rules.specs.Text.{byte, text}
 use Rattle.rules.specs.Decimal.{decimal}
-use Rattle.rules.specs.Split.{split, before}
+use Rattle.rules.specs.Split.{parted, before}
 use Rattle.rules.specs.Words.{spaced, wordsOf}
 use Rattle.rules.specs.Commands.{says}
 use Rattle.rules.specs.Program.{mostInput, carriedOut, printed, tailPrinted, answered, program}
@@ -29,7 +29,7 @@ pub answered-line : (s : Schedule) (line rest : List ℕ) → Without (byte "\n"
     → answered s (line ++ byte "\n" ∷ rest) ≡ carriedOut s (says line) .words ++ byte "\n" ∷ answered (carriedOut s (says line) .schedule) rest
 unfolding answered printed
 answered-line s line rest h =
-    let later = split (byte "\n") rest in
+    let later = parted (byte "\n") rest in
     let one = carriedOut s (says line) in
     rw (split-piece (byte "\n") line rest h)
     (append-assoc (one .words) (byte "\n" ∷ printed (one .schedule) (later .pieces)) (tailPrinted (later .tail)))
@@ -40,7 +40,7 @@ unfolding answered printed
 answered-tail s b bs h = rw (split-none (byte "\n") (b ∷ bs) h)
 
 pub answered-nothing : (s : Schedule) → answered s [] ≡ []
-unfolding answered printed split
+unfolding answered printed parted
 answered-nothing s = refl
 
 -- "4,096 bytes are taken and 4,097 print only `long`"
@@ -122,14 +122,14 @@ tailCount [] = 0
 tailCount (b ∷ bs) = 1
 
 unfoldable pub lineCount : List ℕ → ℕ
-unfolding split tailCount
-lineCount input = length (split (byte "\n") input .pieces) + tailCount (split (byte "\n") input .tail)
+unfolding parted tailCount
+lineCount input = length (parted (byte "\n") input .pieces) + tailCount (parted (byte "\n") input .tail)
 
 -- Each line and the tail give one line.
 printed-lines : (s : Schedule) (lines : List (List ℕ)) (tail : List ℕ)
-    → (split (byte "\n") (printed s lines ++ tailPrinted tail) .tail ≡ [])
-    × (length (split (byte "\n") (printed s lines ++ tailPrinted tail) .pieces) ≡ length lines + tailCount tail)
-unfolding printed split tailCount
+    → (parted (byte "\n") (printed s lines ++ tailPrinted tail) .tail ≡ [])
+    × (length (parted (byte "\n") (printed s lines ++ tailPrinted tail) .pieces) ≡ length lines + tailCount tail)
+unfolding printed parted tailCount
 printed-lines s [] [] = (refl, refl)
 printed-lines s [] (b ∷ bs) = (refl, refl)
 printed-lines s (line ∷ lines) tail =
@@ -143,15 +143,15 @@ printed-lines s (line ∷ lines) tail =
 
 -- Every output line ends in LF, and there are as many as the input has.
 pub answered-lines : (s : Schedule) (input : List ℕ)
-    → (split (byte "\n") (answered s input) .tail ≡ []) × (length (split (byte "\n") (answered s input) .pieces) ≡ lineCount input)
+    → (parted (byte "\n") (answered s input) .tail ≡ []) × (length (parted (byte "\n") (answered s input) .pieces) ≡ lineCount input)
 unfolding answered lineCount
-answered-lines s input = printed-lines s (split (byte "\n") input .pieces) (split (byte "\n") input .tail)
+answered-lines s input = printed-lines s (parted (byte "\n") input .pieces) (parted (byte "\n") input .tail)
 
 pub program-lines : (input : List ℕ) → length input ≤ mostInput
-    → (split (byte "\n") (program input) .tail ≡ []) × (length (split (byte "\n") (program input) .pieces) ≡ lineCount input)
+    → (parted (byte "\n") (program input) .tail ≡ []) × (length (parted (byte "\n") (program input) .pieces) ≡ lineCount input)
 program-lines input h = rw (program-answered input h) (answered-lines fresh input)
 
 -- `long` is one line.
-pub long-line : split (byte "\n") (text "long\n") ≡ record { pieces = text "long" ∷ []; tail = [] }
-unfolding split
+pub long-line : parted (byte "\n") (text "long\n") ≡ record { pieces = text "long" ∷ []; tail = [] }
+unfolding parted
 long-line = refl

@@ -13,7 +13,7 @@ use Rattle.rules.specs.Good.{fresh}
 use Rattle.rules.specs.Answers.{Outcome}
 use Rattle.rules.specs.Obey.{obey}
 use Rattle.rules.specs.Text.{byte, text}
-use Rattle.rules.specs.Split.{Parts, split}
+use Rattle.rules.specs.Split.{Parts, parted}
 use Rattle.rules.specs.Words.{wordsOf}
 use Rattle.rules.specs.Commands.{says}
 use Rattle.rules.specs.Program.{Printed, carriedOut, printed, tailPrinted, answered, program}
@@ -42,8 +42,8 @@ carried-out-told h (Says c) = ap (λ (t : Result). record { words = wordsOf (t .
 
 -- The lines of the output are what is told, line by line.
 printed-told : (h : History) (lines : List (List ℕ)) (tail : List ℕ)
-    → split (byte "\n") (printed (after h) lines ++ tailPrinted tail) ≡ record { pieces = toldAll h lines ++ tailTold tail; tail = [] }
-unfolding printed toldAll split
+    → parted (byte "\n") (printed (after h) lines ++ tailPrinted tail) ≡ record { pieces = toldAll h lines ++ tailTold tail; tail = [] }
+unfolding printed toldAll parted
 printed-told h [] [] = refl
 printed-told h [] (b ∷ bs) = refl
 printed-told h (line ∷ lines) tail =
@@ -65,8 +65,8 @@ output-is input r p = rw (p .bytes) (take-at (program input) _ (r .count) (sym (
 pub program-told : ProgramTold
 unfolding answered after startOf
 program-told input r p l =
-    ap (split (byte "\n")) (output-is input r p ∙ program-answered input l)
-    ∙ printed-told (begin Fresh) (split (byte "\n") input .pieces) (split (byte "\n") input .tail)
+    ap (parted (byte "\n")) (output-is input r p ∙ program-answered input l)
+    ∙ printed-told (begin Fresh) (parted (byte "\n") input .pieces) (parted (byte "\n") input .tail)
 
 -- So each line, wherever it stands, is told after those before it.
 pub told-each : (h : History) (before : List (List ℕ)) (line : List ℕ) (later : List (List ℕ))

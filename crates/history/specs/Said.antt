@@ -8,7 +8,7 @@ use Rattle.rules.specs.declared.Command.the-variants.{Admit as AdmitCommand, Dr
 use Rattle.rules.specs.declared.Line.{Line}
 use Rattle.rules.specs.declared.Line.the-variants.{Says, Bad}
 use Rattle.rules.specs.Text.{byte, text}
-use Rattle.rules.specs.Split.{split}
+use Rattle.rules.specs.Split.{parted}
 use Rattle.rules.specs.Words.{wordsOf}
 use Rattle.rules.specs.Commands.{says}
 use Rattle.rules.specs.Program.{mostInput}
@@ -61,5 +61,5 @@ tailTold (b ∷ bs) = text "bad" ∷ []
 abbrev pub ProgramTold : Type 0
 ProgramTold =
     (input : List ℕ) (r : Output) → Runs input r → length input ≤ mostInput
-    → split (byte "\n") (take (r .count) (r .bytes))
-    ≡ record { pieces = toldAll (begin Fresh) (split (byte "\n") input .pieces) ++ tailTold (split (byte "\n") input .tail); tail = [] }
+    → parted (byte "\n") (take (r .count) (r .bytes))
+    ≡ record { pieces = toldAll (begin Fresh) (parted (byte "\n") input .pieces) ++ tailTold (parted (byte "\n") input .tail); tail = [] }

@@ -11,7 +11,7 @@ use Rattle.rules.specs.declared.Line.the-variants.{Says, Bad}
 use Rattle.rules.specs.Text.{byte, text}
 use Rattle.rules.specs.Bytes.{same}
 use Rattle.rules.specs.Decimal.{value, fits}
-use Rattle.rules.specs.Split.{split}
+use Rattle.rules.specs.Split.{parted}
 use Rattle.rules.specs.Words.{spaced}
 
 -- ---- a command, written out
@@ -69,8 +69,8 @@ fieldsNamed [] tail = named tail []
 fieldsNamed (word ∷ ps) tail = named word (map value (ps ++ (tail ∷ [])))
 
 unfoldable pub guess : List ℕ → Line
-unfolding split fieldsNamed
-guess line = fieldsNamed (split (byte " ") line .pieces) (split (byte " ") line .tail)
+unfolding parted fieldsNamed
+guess line = fieldsNamed (parted (byte " ") line .pieces) (parted (byte " ") line .tail)
 
 -- A line says the command that it is when written out. "Anything else prints `bad`."
 unfoldable pub confirmed : List ℕ → Line → Line

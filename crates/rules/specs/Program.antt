@@ -10,7 +10,7 @@ use Rattle.rules.specs.declared.Line.the-variants.{Says, Bad}
 use Rattle.rules.specs.Good.{fresh}
 use Rattle.rules.specs.Obey.{obey}
 use Rattle.rules.specs.Text.{byte, text}
-use Rattle.rules.specs.Split.{split}
+use Rattle.rules.specs.Split.{parted}
 use Rattle.rules.specs.Words.{wordsOf}
 use Rattle.rules.specs.Commands.{says}
 
@@ -50,8 +50,8 @@ tailPrinted (x ∷ xs) = text "bad\n"
 
 -- "Each line ends in LF"; the lines go one after the other.
 unfoldable pub answered : Schedule → List ℕ → List ℕ
-unfolding split printed
-answered s input = printed s (split (byte "\n") input .pieces) ++ tailPrinted (split (byte "\n") input .tail)
+unfolding parted printed
+answered s input = printed s (parted (byte "\n") input .pieces) ++ tailPrinted (parted (byte "\n") input .tail)
 
 -- "if there is more it prints only the line `long`. It starts from a fresh schedule".
 unfoldable pub program : List ℕ → List ℕ

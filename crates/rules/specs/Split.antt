@@ -14,10 +14,10 @@ abbrev pub longer : ℕ → List (List ℕ) → List ℕ → Parts
 longer b [] tail = record { pieces = []; tail = b ∷ tail }
 longer b (p ∷ ps) tail = record { pieces = (b ∷ p) ∷ ps; tail = tail }
 
-unfoldable pub split : ℕ → List ℕ → Parts
-split separator [] = record { pieces = []; tail = [] }
-split separator (b ∷ bs) =
-    let later = split separator bs in
+unfoldable pub parted : ℕ → List ℕ → Parts
+parted separator [] = record { pieces = []; tail = [] }
+parted separator (b ∷ bs) =
+    let later = parted separator bs in
     cond (eqb b separator) (record { pieces = [] ∷ later .pieces; tail = later .tail }) (longer b (later .pieces) (later .tail))
 
 -- Each piece with its separator, and then the tail.

@@ -15,7 +15,7 @@ use Rattle.rules.specs.Below.{tabulate}
 use Rattle.rules.specs.Text.{byte, text}
 use Rattle.rules.specs.Bytes.{same}
 use Rattle.rules.specs.Decimal.{decimal}
-use Rattle.rules.specs.Split.{split, before}
+use Rattle.rules.specs.Split.{parted, before}
 use Rattle.rules.specs.Words.{spaced}
 use Rattle.rules.specs.Commands.{wordOf, numbersOf, lineOf, allFit, mostNumbers, isForm, named, fieldsNamed, guess, confirmed, says}
 use Rattle.texts.specs.Row.{IsRow}

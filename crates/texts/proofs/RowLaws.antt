@@ -11,7 +11,7 @@ use lib.Seq.{drop-append-seam}
 use borrow.Author.Tests.{ltb-true, lt-ltb}
 use Rattle.rules.specs.Text.{byte}
 use Rattle.rules.specs.Decimal.{decimal, value, fits, numberIn}
-use Rattle.rules.specs.Split.{split, before}
+use Rattle.rules.specs.Split.{parted, before}
 use Rattle.rules.specs.Words.{spaced}
 use Rattle.rules.specs.Commands.{allFit}
 use Rattle.texts.specs.Row.{IsRow}
@@ -33,7 +33,7 @@ spaceless = decimal-without (byte " ") (omega arith)
 
 -- What is between the spaces are the digits of each number.
 pub values-spaced : (n : ℕ) (ns : List ℕ)
-    → map value (split (byte " ") (decimal n ++ spaced ns) .pieces ++ (split (byte " ") (decimal n ++ spaced ns) .tail ∷ [])) ≡ n ∷ ns
+    → map value (parted (byte " ") (decimal n ++ spaced ns) .pieces ++ (parted (byte " ") (decimal n ++ spaced ns) .tail ∷ [])) ≡ n ∷ ns
 unfolding spaced
 values-spaced n [] =
     rw (append-nil (decimal n), split-none (byte " ") (decimal n) (spaceless n), value-decimal n)
@@ -105,7 +105,7 @@ spaced-unique (n ∷ ns) [] e = let z : _≡_ {A = ℕ} 0 1 = cc in absurd (omeg
 spaced-unique (n ∷ ns) (m ∷ ms) e =
     let rest : decimal n ++ spaced ns ≡ decimal m ++ spaced ms = cc in
     sym (values-spaced n ns)
-    ∙ ap (λ (l : List ℕ). map value (split (byte " ") l .pieces ++ (split (byte " ") l .tail ∷ []))) rest
+    ∙ ap (λ (l : List ℕ). map value (parted (byte " ") l .pieces ++ (parted (byte " ") l .tail ∷ []))) rest
     ∙ values-spaced m ms
 
 pub row-unique : {bytes ns ms : List ℕ} → IsRow bytes ns → IsRow bytes ms → ns ≡ ms

@@ -8,7 +8,7 @@ use native.Mathlib.Omega.{arith}
 use lib.ListN.{length, getD, take, drop, length-take, drop-of-length-le}
 use lib.Seq.{take-all, drop-cons}
 use borrow.Author.Tests.{eq-eqb, ne-eqb}
-use Rattle.rules.specs.Split.{Parts, longer, split, rejoined, before}
+use Rattle.rules.specs.Split.{Parts, longer, parted, rejoined, before}
 
 -- No byte is the separator.
 abbrev pub Without : ℕ → List ℕ → Type 0
@@ -27,8 +27,8 @@ without-append separator (x ∷ xs) ys hx hy = (hx .0, without-append separator 
 -- ---- one byte at a time
 module _ {separator b : ℕ} (bs : List ℕ) where
   -- A separator ends a piece, and what comes before the first one;
-  split-separator : b ≡ separator → split separator (b ∷ bs) ≡ record { pieces = [] ∷ split separator bs .pieces; tail = split separator bs .tail }
-  unfolding split
+  split-separator : b ≡ separator → parted separator (b ∷ bs) ≡ record { pieces = [] ∷ parted separator bs .pieces; tail = parted separator bs .tail }
+  unfolding parted
   split-separator e = rw (eq-eqb b separator e)
 
   before-separator : b ≡ separator → before separator (b ∷ bs) ≡ []
@@ -36,8 +36,8 @@ module _ {separator b : ℕ} (bs : List ℕ) where
   before-separator e = rw (eq-eqb b separator e)
 
   -- any other byte stands in front of them.
-  split-other : b ≢ separator → split separator (b ∷ bs) ≡ longer b (split separator bs .pieces) (split separator bs .tail)
-  unfolding split
+  split-other : b ≢ separator → parted separator (b ∷ bs) ≡ longer b (parted separator bs .pieces) (parted separator bs .tail)
+  unfolding parted
   split-other e = rw (ne-eqb b separator e)
 
   before-other : b ≢ separator → before separator (b ∷ bs) ≡ b ∷ before separator bs
@@ -60,46 +60,46 @@ module _ (separator b : ℕ) where
 
 -- ---- all the bytes
 -- The pieces, each with its separator, and the tail give back the bytes;
-pub split-rejoined : (separator : ℕ) (bs : List ℕ) → rejoined separator (split separator bs .pieces) (split separator bs .tail) ≡ bs
-unfolding split rejoined
+pub split-rejoined : (separator : ℕ) (bs : List ℕ) → rejoined separator (parted separator bs .pieces) (parted separator bs .tail) ≡ bs
+unfolding parted rejoined
 split-rejoined separator [] = refl
 split-rejoined separator (b ∷ bs) =
     by-cases (ℕ-discrete b separator)
     (λ e. rw (split-separator bs e) (ap₂ {C = List ℕ} (λ x l. x ∷ l) (sym e) (split-rejoined separator bs)))
     (λ e. rw (split-other bs e, rejoined-longer) (ap {B = List ℕ} (λ l. b ∷ l) (split-rejoined separator bs)))
 
-split-without : (separator : ℕ) (bs : List ℕ) → EachWithout separator (split separator bs .pieces) × Without separator (split separator bs .tail)
-unfolding split
+split-without : (separator : ℕ) (bs : List ℕ) → EachWithout separator (parted separator bs .pieces) × Without separator (parted separator bs .tail)
+unfolding parted
 split-without separator [] = (tt, tt)
 split-without separator (b ∷ bs) =
     let later = split-without separator bs in
     by-cases (ℕ-discrete b separator)
     (λ e. rw (split-separator bs e) ((tt, later .0), later .1))
-    (λ e. rw (split-other bs e) (longer-without separator b (split separator bs .pieces) (split separator bs .tail) e later))
+    (λ e. rw (split-other bs e) (longer-without separator b (parted separator bs .pieces) (parted separator bs .tail) e later))
 
 -- no separator is in any of them;
-pub split-pieces : (separator : ℕ) (bs : List ℕ) → EachWithout separator (split separator bs .pieces)
+pub split-pieces : (separator : ℕ) (bs : List ℕ) → EachWithout separator (parted separator bs .pieces)
 split-pieces separator bs = split-without separator bs .0
 
-pub split-tail : (separator : ℕ) (bs : List ℕ) → Without separator (split separator bs .tail)
+pub split-tail : (separator : ℕ) (bs : List ℕ) → Without separator (parted separator bs .tail)
 split-tail separator bs = split-without separator bs .1
 
 -- A piece and its separator in front are one piece more;
 pub split-piece : (separator : ℕ) (p bs : List ℕ) → Without separator p
-    → split separator (p ++ separator ∷ bs) ≡ record { pieces = p ∷ split separator bs .pieces; tail = split separator bs .tail }
+    → parted separator (p ++ separator ∷ bs) ≡ record { pieces = p ∷ parted separator bs .pieces; tail = parted separator bs .tail }
 split-piece separator [] bs h = split-separator bs refl
 split-piece separator (b ∷ p) bs h =
     split-other (p ++ separator ∷ bs) (h .0) ∙ ap (λ (s : Parts). longer b (s .pieces) (s .tail)) (split-piece separator p bs (h .1))
 
 -- bytes with no separator are all tail;
-pub split-none : (separator : ℕ) (bs : List ℕ) → Without separator bs → split separator bs ≡ record { pieces = []; tail = bs }
-unfolding split
+pub split-none : (separator : ℕ) (bs : List ℕ) → Without separator bs → parted separator bs ≡ record { pieces = []; tail = bs }
+unfolding parted
 split-none separator [] h = refl
 split-none separator (b ∷ bs) h = split-other bs (h .0) ∙ ap (λ (s : Parts). longer b (s .pieces) (s .tail)) (split-none separator bs (h .1))
 
 -- and they are the only such.
 pub split-only : (separator : ℕ) (ps : List (List ℕ)) (tail : List ℕ) → EachWithout separator ps → Without separator tail
-    → split separator (rejoined separator ps tail) ≡ record { pieces = ps; tail = tail }
+    → parted separator (rejoined separator ps tail) ≡ record { pieces = ps; tail = tail }
 unfolding rejoined
 split-only separator [] tail hs h = split-none separator tail h
 split-only separator (p ∷ ps) tail hs h =
