@@ -16,8 +16,8 @@ use text::is_word;
 use text::opens;
 use text::read_row;
 
-/// The largest buffer of a save, in bytes: specs/Orders.
-pub const MOST_BUFFER: u32 = 2048;
+// The largest buffer of a save, in bytes: mostBuffer of specs/Orders.
+const MOST_BUFFER: u32 = 2048;
 
 /// What a line asks for; the bytes of a load are in the lent buffer, so many of them.
 pub enum Order {

@@ -119,8 +119,8 @@ fn search(room: &[u16; LIST_BLOCKS], anchors: &[u16; LIST_BLOCKS], k: u32, floor
     Place::Nowhere
 }
 
-/// The first open anchor, or none.
-pub fn first_open(tree: &[u8; TREE_BYTES], k: u32, floor: u32) -> Place
+// The first open anchor, or none.
+fn first_open(tree: &[u8; TREE_BYTES], k: u32, floor: u32) -> Place
     requires { ⌜ (k ≤ depth) × (floor ≤ 2 ^ k) × IsTree (now tree) ⌝ }
     ensures { λ r. ⌜ Places k floor (now (tree .entry)) r ⌝ }
 {

@@ -16,12 +16,14 @@ use Rattle.text.specs.Promises.{Puts, PutsWithin}
 use Rattle.text.proofs.Putting.{puts-after}
 use Rattle.answer.specs.Promises.{PutsWords, PutsAnswer}
 use Rattle.run.specs.Promises.{Starts}
+use Rattle.state.specs.Promises.{PutsState}
 use Rattle.image.specs.Promises.{Loads}
 use Rattle.command.specs.Promises.{Obeys}
 use Rattle.order.specs.Orders.{Order, command, fresh as freshOrder, save, state, bad, saveInto, load as loadOrder, asks}
-use Rattle.script.specs.Performing.{mostPrinted, newline, imageLine, savedLine, performed}
-use Rattle.script.specs.Promises.{PutsState, Performs}
-use Rattle.script.proofs.Printing.{puts-as}
+use Rattle.script.specs.Performing.{mostPrinted, imageLine, savedLine, performed}
+use Rattle.state.specs.State.{newline}
+use Rattle.script.specs.Promises.{Performs}
+use Rattle.state.proofs.StateLaws.{puts-as}
 
 module _ {s : Schedule} {line entry exit : List ℕ} {n : ℕ} where
   acted : {o : Order} {after : Schedule} → asks line ≡ o → Puts entry 0 (performed s o .words) exit n → n ≤ mostPrinted → after ≡ performed s o .schedule → Good after

@@ -23,10 +23,11 @@ use Rattle.image.specs.Promises.{Saves}
 use Rattle.text.specs.Promises.{Puts}
 use Rattle.text.proofs.Putting.{puts-after}
 use Rattle.hex.specs.Hex.{hex}
-use Rattle.script.specs.Performing.{imageLine, savedLine, blank, bufferWords, newline}
+use Rattle.script.specs.Performing.{imageLine, savedLine, blank, bufferWords}
+use Rattle.state.specs.State.{newline}
 use Rattle.answer.specs.Promises.{SizeFits}
 use Rattle.hex.proofs.HexLaws.{hex-length}
-use Rattle.script.proofs.Printing.{puts-as}
+use Rattle.state.proofs.StateLaws.{puts-as}
 
 -- The image is the first n bytes.
 pub record Holds (s : Schedule) (buffer : List ℕ) (n : ℕ) : Type 0 where

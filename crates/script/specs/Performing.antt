@@ -1,40 +1,24 @@
 -- What a line of a script prints, and the schedule after it.
 use Prim.Native.Nat.{ℕ}
-use mathlib.Core.List.{List, [], _∷_, _++_, flatten}
+use mathlib.Core.List.{List, [], _∷_, _++_}
 use lib.ListN.{replicate}
 use Rattle.rules.specs.declared.Schedule.{Schedule}
-use Rattle.rules.specs.declared.Connection.{Connection}
 use Rattle.rules.specs.declared.Line.the-variants.{Says}
 use Rattle.rules.specs.Text.{byte, text}
-use Rattle.rules.specs.Decimal.{decimal}
-use Rattle.rules.specs.Words.{spaced, wordsOf}
+use Rattle.rules.specs.Words.{wordsOf}
 use Rattle.rules.specs.Good.{fresh}
-use Rattle.rules.specs.Handles.{eachLive}
 use Rattle.rules.specs.Image.{image}
 use Rattle.rules.specs.Save.{save}
 use Rattle.rules.specs.Load.{load}
 use Rattle.rules.specs.Program.{Printed, carriedOut}
 use Rattle.hex.specs.Hex.{hex}
+use Rattle.state.specs.State.{newline, stateLines}
 use Rattle.order.specs.Orders.{Order, command, fresh as freshOrder, save as saveOrder, state, bad, saveInto, load as loadOrder}
 
 -- "the whole buffer afterwards in hexadecimal", if there is one
 abbrev pub bufferWords : List ℕ → List ℕ
 bufferWords [] = []
 bufferWords (b ∷ bs) = byte " " ∷ hex (b ∷ bs)
-
--- The end of a line.
-abbrev pub newline : List ℕ
-newline = text "\n"
-
--- "a line `handle k anchor length floor ceiling estimate`"
-unfoldable pub connectionLine : ℕ → Connection → List ℕ
-unfolding decimal spaced
-connectionLine h c = decimal h ++ spaced (c .k ∷ c .anchor ∷ c .length ∷ c .floor ∷ c .ceiling ∷ c .estimate ∷ []) ++ newline
-
--- "for each live connection by rising handle", from handle h on
-unfoldable pub stateLines : ℕ → List Connection → List ℕ
-unfolding connectionLine eachLive flatten
-stateLines h cs = flatten (eachLive connectionLine h cs)
 
 -- A buffer of n bytes "that each hold A5 hexadecimal".
 abbrev pub blank : ℕ → List ℕ

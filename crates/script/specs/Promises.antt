@@ -3,16 +3,11 @@ use Prim.Native.Nat.{ℕ, _≤_}
 use mathlib.Core.Path.{_≡_}
 use mathlib.Core.List.{List}
 use Rattle.rules.specs.declared.Schedule.{Schedule}
-use Rattle.rules.specs.declared.Connection.{Connection}
 use Rattle.rules.specs.Good.{Good}
-use Rattle.text.specs.Promises.{Puts, PutsWithin}
+use Rattle.text.specs.Promises.{Puts}
 use Rattle.order.specs.Orders.{asks}
 use Rattle.script.specs.declared.Performed.{Performed}
-use Rattle.script.specs.Performing.{mostPrinted, stateLines, performed}
-
--- The state's lines, from the start.
-abbrev pub PutsState : List Connection → List ℕ → List ℕ → ℕ → Type 0
-PutsState cs entry exit next = PutsWithin 3072 entry 0 (stateLines 0 cs) exit next
+use Rattle.script.specs.Performing.{mostPrinted, performed}
 
 -- A line is performed: all that it prints, and the schedule afterwards; and the schedule is good again.
 pub record Performs (s : Schedule) (line entry exit : List ℕ) (r : Performed) : Type 0 where

@@ -16,8 +16,8 @@ pub fn empty() -> [u8; TREE_BYTES]
     [0u8; TREE_BYTES]
 }
 
-/// p with its k bits in mirrored order: ones, twos, fours and eights of 16 bits change places, and the k bits come down.
-pub fn mirror(k: u32, p: u32) -> u32
+// p with its k bits in mirrored order: ones, twos, fours and eights of 16 bits change places, and the k bits come down.
+fn mirror(k: u32, p: u32) -> u32
     requires { ⌜ k ≤ depth ⌝ }
     ensures { λ r. ⌜ Mirrored k p r ⌝ }
 {
@@ -28,8 +28,8 @@ pub fn mirror(k: u32, p: u32) -> u32
     eights >> (16 - k)
 }
 
-/// The node that covers the class of r for the factor 2^k.
-pub fn node(k: u32, r: u32) -> usize
+// The node that covers the class of r for the factor 2^k.
+fn node(k: u32, r: u32) -> usize
     requires { ⌜ k ≤ depth ⌝ }
     ensures { λ n. ⌜ n ≡ 2 ^ k + mirrored k r ⌝ }
 {

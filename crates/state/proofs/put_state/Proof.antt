@@ -1,4 +1,4 @@
--- `script::put_state` meets its contract. The invariant: the lines of the handles below h are put.
+-- `state::put_state` meets its contract. The invariant: the lines of the handles below h are put.
 use borrow.Author.Needs.{needs}
 use mathlib.Core.Path.{_≡_, refl}
 use mathlib.Core.Logic.{⊎-elim}
@@ -10,10 +10,10 @@ use lib.Seq.{take-all}
 use Rattle.rules.specs.Handles.{eachLive}
 use Rattle.text.specs.Promises.{Puts}
 use Rattle.text.proofs.Putting.{puts-after, puts-length}
-use Rattle.script.specs.Performing.{stateLines}
-use Rattle.script.proofs.Printing.{state-live, state-dead, puts-moved, puts-as}
-use Rattle.script.proofs.performing.put_state.Statement.{statement}
-use Rattle.script.proofs.performing.put_state.Tie as tie
+use Rattle.state.specs.State.{stateLines}
+use Rattle.state.proofs.StateLaws.{state-live, state-dead, puts-moved, puts-as}
+use Rattle.state.proofs.put_state.Statement.{statement}
+use Rattle.state.proofs.put_state.Tie as tie
 
 abbrev Inv-loop : tie.InvT-loop
 Inv-loop out₀ connections next₀ h₀ out next h =

@@ -1,11 +1,11 @@
--- `script::put_connection` meets its contract: the run, then the share.
+-- `state::put_connection` meets its contract: the run, then the share.
 use borrow.Author.Needs.{needs}
 use native.Mathlib.Omega.{arith}
 use mathlib.Core.Path.{_∙_}
 use Rattle.text.proofs.Putting.{puts-length}
-use Rattle.script.proofs.Printing.{connection-line}
-use Rattle.script.proofs.performing.put_connection.Statement.{statement}
-use Rattle.script.proofs.performing.put_connection.Tie as tie
+use Rattle.state.proofs.StateLaws.{connection-line}
+use Rattle.state.proofs.put_connection.Statement.{statement}
+use Rattle.state.proofs.put_connection.Tie as tie
 
 put-run-requires : tie.Need-put-run-requires
 put-run-requires c κs = search needs

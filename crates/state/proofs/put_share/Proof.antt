@@ -1,10 +1,10 @@
--- `script::put_share` meets its contract: three numbers and the end of the line.
+-- `state::put_share` meets its contract: three numbers and the end of the line.
 use borrow.Author.Needs.{needs}
 use mathlib.Core.List.{[], _∷_}
 use native.Mathlib.Omega.{arith}
 use Rattle.text.proofs.Putting.{puts-after, puts-nothing, puts-length, within-all, room-spaced, within-first, within-spaced}
-use Rattle.script.proofs.performing.put_share.Statement.{statement}
-use Rattle.script.proofs.performing.put_share.Tie as tie
+use Rattle.state.proofs.put_share.Statement.{statement}
+use Rattle.state.proofs.put_share.Tie as tie
 
 cast-put-spaced : tie.Need-cast-put-spaced
 cast-put-spaced c = search needs

@@ -1,12 +1,12 @@
--- `script::put_run` meets its contract: the handle, then three numbers.
+-- `state::put_run` meets its contract: the handle, then three numbers.
 use borrow.Author.Needs.{needs}
 use mathlib.Core.List.{[], _∷_}
 use native.Mathlib.Omega.{arith}
 use Rattle.rules.specs.Decimal.{decimal}
 use Rattle.texts.proofs.DecimalLaws.{decimal-length}
 use Rattle.text.proofs.Putting.{within-decimal, room-spaced, within-first, within-spaced}
-use Rattle.script.proofs.performing.put_run.Statement.{statement}
-use Rattle.script.proofs.performing.put_run.Tie as tie
+use Rattle.state.proofs.put_run.Statement.{statement}
+use Rattle.state.proofs.put_run.Tie as tie
 
 put-decimal-requires : tie.Need-put-decimal-requires
 put-decimal-requires c κs = omega (arith, c .before .before .pre, decimal-length 2 (c .before .before .args .handle) (omega arith))

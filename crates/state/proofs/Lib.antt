@@ -1,0 +1,2 @@
+-- The state, put line by line.
+pub mod StateLaws
