@@ -1,2 +1,3 @@
--- The laws of the reading of an image's frame.
-pub mod ReadLaws
+-- What the functions' proofs cite, and the law of the promise.
+mod ReadLaws
+pub mod Calls
