@@ -2,8 +2,10 @@
 ghost use Prim.Native.Nat.{_≤_};
 ghost use lib.ListN.{length};
 ghost use Rattle.rules.specs.Good.{Good};
+ghost use Rattle.answer.specs.Promises.{SizeFits};
 use answer::put_loading;
 use answer::put_reply;
+use answer::put_saving;
 use image::load;
 use image::save;
 use input::Input;
@@ -24,8 +26,6 @@ use schedule::drop;
 use schedule::fresh;
 use schedule::report;
 use show::end;
-use show::number;
-use show::refused;
 use show::word;
 use text::find;
 
@@ -38,6 +38,15 @@ fn tell(reply: Reply) {
     let mut out = [0u8; LONGEST_ANSWER];
     let count = put_reply(&mut out, 0, reply);
     word(&out[..count]);
+}
+
+fn tell_saving(answer: Saving)
+    requires { ⌜ SizeFits answer ⌝ }
+{
+    let mut out = [0u8; LONGEST_ANSWER];
+    let count = put_saving(&mut out, 0, answer);
+    word(&out[..count]);
+    end();
 }
 
 fn tell_loading(answer: Loading) {
@@ -110,14 +119,7 @@ fn saved(s: Schedule, buffer: &mut [u8])
     mark();
     let answer = save(s, buffer);
     mark();
-    match answer {
-        Saving::Size(size) => {
-            word(b"saved");
-            number(size as u64);
-            end();
-        }
-        Saving::Refused(r) => refused(r),
-    }
+    tell_saving(answer);
 }
 
 fn loaded(s: Schedule, bytes: &[u8]) -> Schedule

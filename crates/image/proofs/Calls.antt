@@ -1,13 +1,17 @@
 -- The laws of the calls: what follows from a promise, whatever the code.
 use mathlib.Core.Path.{_≡_, sym, ap, _∙_}
 use mathlib.Core.List.{List}
-use Prim.Native.Nat.{ℕ}
+use Prim.Native.Nat.{ℕ, _^_, _<_}
+use native.Mathlib.Omega.{arith}
 use Rattle.rules.specs.declared.Schedule.{Schedule}
 use Rattle.rules.specs.declared.Saving.{Saving}
 use Rattle.rules.specs.declared.Loaded.{Loaded}
-use Rattle.rules.specs.Answers.{Outcome, refused, ofLoaded}
+use Rattle.rules.specs.Answers.{Outcome, refused, saved, ofSaving, ofLoaded}
+use Rattle.rules.specs.Good.{Good}
 use Rattle.rules.specs.Save.{Written}
 use Rattle.calls.proofs.AnswerLaws.{saving-injective, loaded-injective}
+use Rattle.images.proofs.ImageLaws.{image-bounds}
+use Rattle.images.proofs.SaveLaws.{save-size}
 use Rattle.images.proofs.LoadLaws.{load-keeps}
 use Rattle.image.specs.Promises.{Saves, Loads}
 
@@ -25,3 +29,8 @@ pub load-refusal : (s : Schedule) (bytes : List ℕ) (r : Loaded) → Loads s by
 load-refusal s bytes r p n e =
     ap (λ (o : Outcome). o .schedule) (p .is)
     ∙ load-keeps s bytes n (ap (λ (o : Outcome). o .answer) (sym (p .is)) ∙ e)
+
+-- The size that a save answers fits in 32 bits: an image has 1,290 bytes at most.
+pub saved-fits : (s : Schedule) → Good s → (before after : List ℕ) (a : Saving) (n : ℕ) → Saves s before after a → ofSaving a ≡ saved n → n < 2 ^ 32
+saved-fits s good before after a n p e =
+    omega (arith, save-size s before n (sym (ap (λ (w : Written). w .answer) p) ∙ e), image-bounds s (good .places) .1)

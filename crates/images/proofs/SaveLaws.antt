@@ -17,7 +17,7 @@ use Rattle.rules.specs.Answers.{refused, saved}
 use Rattle.rules.specs.Records.{bytesOf, joined}
 use Rattle.rules.specs.Image.{connectionPiece, connectionPieces, image}
 use Rattle.rules.specs.Save.{Written, saveChecks, saveDone, save}
-use Rattle.calls.proofs.RefusalLaws.{decided-first, decided-passed}
+use Rattle.calls.proofs.RefusalLaws.{decided-first, decided-passed, decided-cases}
 use Rattle.calls.proofs.EachLaws.{each-live, each-dead, each-first}
 use Rattle.images.proofs.PieceLaws.{joined-append}
 
@@ -67,3 +67,14 @@ save-whole s buffer bytes e l =
     sym (save-written s buffer (omega (arith, ap (λ (x : List ℕ). length x) e)))
     ∙ ap (λ (x : List ℕ). record { answer = saved (length x); buffer = sets buffer 0 x }) e
     ∙ ap (λ (b : List ℕ). record { answer = saved (length bytes); buffer = b }) (from-start bytes buffer l)
+
+-- The size that a save answers is that of the image.
+pub save-size : (s : Schedule) (buffer : List ℕ) (n : ℕ) → save s buffer .answer ≡ saved n → n ≡ length (image s)
+unfolding save saveDone
+save-size s buffer n =
+    decided-cases (λ (w : Written). w .answer ≡ saved n → n ≡ length (image s)) (saveChecks s buffer) (λ m. record { answer = refused m; buffer = buffer }) (saveDone s buffer)
+    (λ m e. let z : _≡_ {A = ℕ} 0 1 = cc in absurd (omega arith))
+    (λ d e. same e)
+  where
+    same : {m k : ℕ} → saved m ≡ saved k → k ≡ m
+    same e = cc

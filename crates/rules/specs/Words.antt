@@ -28,7 +28,6 @@ wordsOf (slots n) = text "slots" ++ spaced (n ∷ [])
 wordsOf (saved n) = text "saved" ++ spaced (n ∷ [])
 wordsOf (loaded n) = text "loaded" ++ spaced (n ∷ [])
 
--- A line of the command program, with its LF, has so many bytes at most: `ok` and three numbers of 32 bits would have more, but those of an answer are
--- of 16; and a command and its LF have a quarter of it at least.
+-- No answer of a call has a longer line, with its LF: four bytes for each byte of the shortest command, `drop 0`, and its LF.
 abbrev pub longestAnswer : ℕ
 longestAnswer = 28

@@ -13,7 +13,7 @@ use Rattle.rules.specs.Text.{text}
 use Rattle.rules.specs.Words.{wordsOf}
 use Rattle.rules.specs.Program.{carriedOut}
 use Rattle.text.specs.Promises.{Puts, PutsWithin}
-use Rattle.text.proofs.Putting.{puts-after}
+use Rattle.text.proofs.Putting.{puts-after, puts-as}
 use Rattle.answer.specs.Promises.{PutsWords, PutsAnswer}
 use Rattle.run.specs.Promises.{Starts}
 use Rattle.state.specs.Promises.{PutsState}
@@ -23,7 +23,6 @@ use Rattle.order.specs.Orders.{Order, command, fresh as freshOrder, save, state
 use Rattle.script.specs.Performing.{mostPrinted, imageLine, savedLine, performed}
 use Rattle.state.specs.State.{newline}
 use Rattle.script.specs.Promises.{Performs}
-use Rattle.state.proofs.StateLaws.{puts-as}
 
 module _ {s : Schedule} {line entry exit : List ℕ} {n : ℕ} where
   acted : {o : Order} {after : Schedule} → asks line ≡ o → Puts entry 0 (performed s o .words) exit n → n ≤ mostPrinted → after ≡ performed s o .schedule → Good after

@@ -1,7 +1,7 @@
 -- What a save leaves in a buffer.
 use mathlib.Core.Path.{_≡_, refl, sym, ap, _∙_}
 use mathlib.Core.List.{List, _++_}
-use Prim.Native.Nat.{ℕ, _*_, _^_, _<_, _≤_}
+use Prim.Native.Nat.{ℕ, _*_, _≤_}
 use native.Mathlib.Omega.{arith}
 use lib.ListN.{length, take, drop, length-append, length-drop, length-replicate}
 use lib.Seq.{take-at}
@@ -17,17 +17,17 @@ use Rattle.rules.specs.Answers.{ofSaving, refused, saved}
 use Rattle.rules.specs.Image.{image}
 use Rattle.rules.specs.Save.{Written, saveChecks, saveDone, save}
 use Rattle.calls.proofs.RefusalLaws.{decided-cases}
-use Rattle.images.proofs.SaveLaws.{save-whole}
+use Rattle.images.proofs.SaveLaws.{save-whole, save-size}
 use Rattle.images.proofs.ImageLaws.{image-bounds}
 use Rattle.image.specs.Promises.{Saves}
+use Rattle.image.proofs.Calls.{saved-fits}
 use Rattle.text.specs.Promises.{Puts}
-use Rattle.text.proofs.Putting.{puts-after}
+use Rattle.text.proofs.Putting.{puts-after, puts-as}
 use Rattle.hex.specs.Hex.{hex}
 use Rattle.script.specs.Performing.{imageLine, savedLine, blank, bufferWords}
 use Rattle.state.specs.State.{newline}
 use Rattle.answer.specs.Promises.{SizeFits}
 use Rattle.hex.proofs.HexLaws.{hex-length}
-use Rattle.state.proofs.StateLaws.{puts-as}
 
 -- The image is the first n bytes.
 pub record Holds (s : Schedule) (buffer : List ℕ) (n : ℕ) : Type 0 where
@@ -40,9 +40,6 @@ pub record Holds (s : Schedule) (buffer : List ℕ) (n : ℕ) : Type 0 where
 pub holds-digits : {s : Schedule} {buffer : List ℕ} {n : ℕ} → Holds s buffer n → length (hex (take n buffer)) ≡ 2 * n
 holds-digits {s} {buffer} {n} h = hex-length (take n buffer) ∙ ap (λ (m : ℕ). 2 * m) (h .long)
 
-same-size : {m k : ℕ} → saved m ≡ saved k → m ≡ k
-same-size e = cc
-
 module _ (s : Schedule) (good : Good s) (entry exit : List ℕ) (large : 2048 ≤ length entry) where
   wrote : save s entry ≡ record { answer = saved (length (image s)); buffer = image s ++ drop (length (image s)) entry }
   wrote =
@@ -52,7 +49,7 @@ module _ (s : Schedule) (good : Good s) (entry exit : List ℕ) (large : 2048 �
   pub holds : (n : ℕ) → Saves s entry exit (Size n) → Holds s exit n
   holds n p =
       let e = p ∙ wrote in
-      let q : n ≡ length (image s) = same-size (ap (λ (w : Written). w .answer) e) in
+      let q : n ≡ length (image s) = save-size s entry n (sym (ap (λ (w : Written). w .answer) p)) in
       let x = ap (λ (w : Written). w .buffer) e in
       let b = image-bounds s (good .places) in
       record {
@@ -75,15 +72,7 @@ image-line s e p q r = puts-after (puts-after p (puts-as (ap hex e) q)) r
 -- ---- a save into a blank buffer
 -- Its size can be printed.
 pub size-fits : (s : Schedule) → Good s → (entry exit : List ℕ) (a : Saving) → Saves s entry exit a → SizeFits a
-unfolding save saveDone
-size-fits s good entry exit (Size n) p =
-    decided-cases (λ (w : Written). w .answer ≡ saved n → n < 2 ^ 32) (saveChecks s entry) (λ m. record { answer = refused m; buffer = entry }) (saveDone s entry)
-    (λ m e. let z : _≡_ {A = ℕ} 0 1 = cc in absurd (omega arith))
-    (λ d e.
-    let b = image-bounds s (good .places) in
-    let q : length (image s) ≡ n = same-size e in
-    omega (arith, q, b .1))
-    (sym (ap (λ (w : Written). w .answer) p))
+size-fits s good entry exit (Size n) p = saved-fits s good entry exit (Size n) n p refl
 size-fits s good entry exit (Refused r) p = tt
 
 -- The answer's words, the buffer, the end of the line.

@@ -10,7 +10,7 @@ use Rattle.rules.specs.Handles.{eachLive}
 use Rattle.rules.specs.Decimal.{decimal}
 use Rattle.rules.specs.Words.{spaced}
 use Rattle.calls.proofs.EachLaws.{each-live, each-dead}
-use Rattle.text.specs.Promises.{Puts, PutsWithin}
+use Rattle.text.specs.Promises.{Puts}
 use Rattle.text.proofs.Putting.{puts-after, spaced-append}
 use Rattle.state.specs.State.{newline, connectionLine, stateLines}
 
@@ -45,13 +45,3 @@ module _ (cs : List Connection) (h : ℕ) (here : h < length cs) where
   pub state-dead : at cs h .live ≡ false → stateLines 0 (take h cs) ≡ stateLines 0 (take (h + 1) cs)
   unfolding stateLines
   state-dead e = sym (ap flatten (each-dead connectionLine cs h here e))
-
--- The same, where the buffer and the place go by other names.
-pub puts-moved : {l x b c : List ℕ} {start m n : ℕ} → c ≡ b → n ≡ m → Puts l start x b m → Puts l start x c n
-puts-moved {l} {x} {b} {c} {start} {m} {n} e q p = record { stored = e ∙ p .stored; ends = q ∙ p .ends }
-
-pub puts-as : {l x y b : List ℕ} {start n : ℕ} → x ≡ y → Puts l start x b n → Puts l start y b n
-puts-as {l} {b = b} {start} {n} e p = subst (λ (z : List ℕ). Puts l start z b n) e p
-
-pub within-as : {l x y b : List ℕ} {most start n : ℕ} → x ≡ y → PutsWithin most l start x b n → PutsWithin most l start y b n
-within-as e p = record { puts = puts-as e (p .puts); room = p .room }

@@ -107,3 +107,13 @@ within-spaced word ns k n h p q = record { puts = puts-number word ns n (p .puts
 -- What is put from the start is a part of the buffer.
 pub within-part : {l b xs : List ℕ} {most n : ℕ} → PutsWithin most l 0 xs b n → most ≤ length l → n ≡ length (take n b)
 within-part {l} {b} {xs} {most} {n} p h = sym (length-take-le n b (omega (arith, p .room, puts-length (p .puts))))
+
+-- The same, where the buffer and the place go by other names.
+pub puts-moved : {l x b c : List ℕ} {start m n : ℕ} → c ≡ b → n ≡ m → Puts l start x b m → Puts l start x c n
+puts-moved {l} {x} {b} {c} {start} {m} {n} e q p = record { stored = e ∙ p .stored; ends = q ∙ p .ends }
+
+pub puts-as : {l x y b : List ℕ} {start n : ℕ} → x ≡ y → Puts l start x b n → Puts l start y b n
+puts-as {l} {b = b} {start} {n} e p = subst (λ (z : List ℕ). Puts l start z b n) e p
+
+pub within-as : {l x y b : List ℕ} {most start n : ℕ} → x ≡ y → PutsWithin most l start x b n → PutsWithin most l start y b n
+within-as e p = record { puts = puts-as e (p .puts); room = p .room }

@@ -9,9 +9,9 @@ use lib.ListN.{length, take}
 use lib.Seq.{take-all}
 use Rattle.rules.specs.Handles.{eachLive}
 use Rattle.text.specs.Promises.{Puts}
-use Rattle.text.proofs.Putting.{puts-after, puts-length}
+use Rattle.text.proofs.Putting.{puts-after, puts-length, puts-moved, puts-as}
 use Rattle.state.specs.State.{stateLines}
-use Rattle.state.proofs.StateLaws.{state-live, state-dead, puts-moved, puts-as}
+use Rattle.state.proofs.StateLaws.{state-live, state-dead}
 use Rattle.state.proofs.put_state.Statement.{statement}
 use Rattle.state.proofs.put_state.Tie as tie
 

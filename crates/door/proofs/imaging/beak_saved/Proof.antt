@@ -1,5 +1,8 @@
 -- `door::imaging::beak_saved` meets its contract: the size fits, and the bytes are the rule's.
-use Rattle.door.proofs.Writing.{size-fits, writes}
+use mathlib.Core.Path.{ap}
+use Rattle.rules.specs.Answers.{ofSaving}
+use Rattle.image.proofs.Calls.{saved-fits}
+use Rattle.door.proofs.Writing.{writes}
 use borrow.Author.Needs.{needs}
 use Rattle.door.proofs.imaging.beak_saved.Statement.{statement}
 use Rattle.door.proofs.imaging.beak_saved.Tie as tie
@@ -14,7 +17,7 @@ cast-saved : tie.Need-cast-saved
 cast-saved c =
     let start = c .before .before .before .before .before .before .before .before in
     let done = c .before .before .before .before .before .save in
-    record { fits = size-fits (start .args .s) (start .args .buffer .now) (done .last .1 .0) (start .pre) (done .result) (done .ensures) (c .before .answer .given .0 .0) (c .before .answer .given .1) }
+    record { fits = saved-fits (start .args .s) (start .pre) (start .args .buffer .now) (done .last .1 .0) (done .result) (c .before .answer .given .0 .0) (done .ensures) (ap ofSaving (c .before .answer .given .1)) }
 
 saved-requires : tie.Need-saved-requires
 saved-requires c κs = search needs

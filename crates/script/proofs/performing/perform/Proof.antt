@@ -4,7 +4,7 @@ use mathlib.Core.Path.{sym, ap}
 use native.Mathlib.Omega.{arith}
 use lib.ListN.{take}
 use lib.Seq.{length-take-le}
-use Rattle.state.proofs.StateLaws.{within-as}
+use Rattle.text.proofs.Putting.{within-as}
 use Rattle.script.specs.Performing.{savedLine, performed}
 use Rattle.order.proofs.Asked.{asked, inside}
 use Rattle.script.proofs.Acting.{acts-command, acts-fresh, acts-image, acts-save, acts-load, acts-state, acts-bad}
