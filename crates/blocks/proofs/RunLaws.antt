@@ -11,7 +11,8 @@ use borrow.Author.Tests.{eq-eqb, ne-eqb, le-leb, lt-leb, lt-ltb, le-ltb}
 use Rattle.rules.specs.declared.Connection.{Connection}
 use Rattle.rules.specs.Time.{minusMod}
 use Rattle.rules.specs.Ownership.{factor, belongs}
-use Rattle.rules.specs.Classes.{inClass, inRun, withClass, withoutClass, setRun}
+use Rattle.rules.specs.Classes.{inClass}
+use Rattle.blocks.specs.Taking.{inRun, withClass, withoutClass, setRun}
 use Rattle.rules.specs.TreeBytes.{treeOf}
 use Rattle.blocks.proofs.EndlessTime.{minusMod-back, minusMod-only}
 use Rattle.blocks.proofs.TreeLaws.{tree-ext}

@@ -14,7 +14,7 @@ use Rattle.rules.specs.declared.Connection.{Connection}
 use Rattle.rules.specs.declared.Schedule.{Schedule}
 use Rattle.rules.specs.Time.{minusMod}
 use Rattle.rules.specs.Ownership.{handles, nobody, at, belongs, owns, taken}
-use Rattle.rules.specs.Classes.{nothing, setRun}
+use Rattle.blocks.specs.Taking.{nothing, setRun}
 use Rattle.rules.specs.TreeBytes.{treeOf}
 use Rattle.rules.specs.Good.{Good, FreeSlotsZero, treeFor, fresh, withConnections, withConnection}
 use Rattle.rules.specs.Handles.{connection}

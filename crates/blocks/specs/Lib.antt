@@ -1,2 +1,3 @@
--- What contracts say of a tree from the inside.
+-- What contracts say of a tree, of classes and of runs.
 pub mod Children
+pub mod Taking

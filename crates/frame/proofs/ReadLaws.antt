@@ -11,25 +11,25 @@ use lib.Seq.{drop-cons, drop-drop, drop-length}
 use Rattle.rules.specs.Ownership.{handles}
 use Rattle.rules.specs.Bytes.{littleNumber}
 use Rattle.rules.specs.Records.{piecesOf}
-use Rattle.rules.specs.Form.{Head, countKind, countSize, connectionKind, connectionSize, isConnection, treeKind, treeSize, isTree, headed, form}
+use Rattle.rules.specs.Form.{Head, countKind, countSize, connectionKind, connectionSize, connectionHead, treeKind, treeSize, treeHead, headed, form}
 use Rattle.rules.specs.Framing.{countIn, recordsAre, recordsWrong, Framed}
 use Rattle.basics.proofs.BoolLaws.{both, is-false}
 use Rattle.basics.proofs.BytesLaws.{AllBytes, bytes-drop}
 use Rattle.images.proofs.FormLaws.{headed-exactly}
 use Rattle.images.proofs.FrameLaws.{headFrom, are-step, are-short, are-none, are-over, count-first, framed-are, wrong-are, wrong-many}
-use Rattle.frame.specs.Promises.{Says, connectionsThen}
+use Rattle.frame.specs.Promises.{HeadSays, connectionsThen}
 
 -- A place has one kind and one size.
-pub one-kind : (bytes : List ℕ) (at k s kind size : ℕ) → Says bytes at k s → Says bytes at kind size → (k ≡ kind) × (s ≡ size)
+pub one-kind : (bytes : List ℕ) (at k s kind size : ℕ) → HeadSays bytes at k s → HeadSays bytes at kind size → (k ≡ kind) × (s ≡ size)
 one-kind bytes at k s kind size p q = (sym (p .kind-is) ∙ q .kind-is, sym (p .size-is) ∙ q .size-is)
 
 -- A record of the kind and the size that are asked for is passed.
-pub passed : (bytes : List ℕ) (at k s kind size next : ℕ) → Says bytes at k s × (next ≡ at + (4 + s)) → k ≡ kind → s ≡ size → Says bytes at kind size × (next ≡ at + (4 + size))
+pub passed : (bytes : List ℕ) (at k s kind size next : ℕ) → HeadSays bytes at k s × (next ≡ at + (4 + s)) → k ≡ kind → s ≡ size → HeadSays bytes at kind size × (next ≡ at + (4 + size))
 passed bytes at k s kind size next p ek es = (record { kind-is = p .0 .kind-is ∙ ek; size-is = p .0 .size-is ∙ es; fits = omega (arith, p .0 .fits) }, omega (arith, p .1))
 
 -- What is asked for after the connections.
 abbrev treeForm : List (Head → Bool)
-treeForm = isTree ∷ []
+treeForm = treeHead ∷ []
 
 -- Of n records of connections, i are passed, and the cursor is after them.
 abbrev pub PassedSoFar : List ℕ → ℕ → ℕ → ℕ → ℕ → Type 0
@@ -46,7 +46,7 @@ module _ (bytes : List ℕ) (small : AllBytes bytes) where
     kind-at = ap (λ (d : List ℕ). littleNumber (take 2 d)) (drop-drop 2 at bytes)
 
     -- It is there: it is up to those after it.
-    pub one-there : (next : ℕ) → Says bytes at kind size × (next ≡ at + (4 + size)) → recordsAre (headed kind size ∷ later) (drop at bytes) ≡ recordsAre later (drop next bytes)
+    pub one-there : (next : ℕ) → HeadSays bytes at kind size × (next ≡ at + (4 + size)) → recordsAre (headed kind size ∷ later) (drop at bytes) ≡ recordsAre later (drop next bytes)
     one-there next p =
         let d = drop at bytes in
         let s : headFrom d .size ≡ size = p .0 .size-is in
@@ -57,7 +57,7 @@ module _ (bytes : List ℕ) (small : AllBytes bytes) where
         ∙ ap (recordsAre later) (drop-drop (4 + headFrom d .size) at bytes ∙ ap (λ (k : ℕ). drop k bytes) q)
 
     -- It is not there.
-    pub one-missing : (Says bytes at kind size → ⊥) → recordsAre (headed kind size ∷ later) (drop at bytes) ≡ false
+    pub one-missing : (HeadSays bytes at kind size → ⊥) → recordsAre (headed kind size ∷ later) (drop at bytes) ≡ false
     one-missing none =
         let d = drop at bytes in
         is-false (recordsAre (headed kind size ∷ later) d) (λ e.
@@ -82,21 +82,21 @@ module _ (bytes : List ℕ) (small : AllBytes bytes) where
     next-asked : n - i ≡ suc (n - (i + 1))
     next-asked = omega arith
 
-    begun : (later : List (Head → Bool)) → recordsAre (connectionsThen n later) (drop at bytes) ≡ recordsAre (isConnection ∷ connectionsThen (n - (i + 1)) later) (drop cursor bytes)
+    begun : (later : List (Head → Bool)) → recordsAre (connectionsThen n later) (drop at bytes) ≡ recordsAre (connectionHead ∷ connectionsThen (n - (i + 1)) later) (drop cursor bytes)
     begun later = t later ∙ ap (λ (m : ℕ). recordsAre (connectionsThen m later) (drop cursor bytes)) next-asked
 
-    pub connections-more : (next : ℕ) → Says bytes cursor connectionKind connectionSize × (next ≡ cursor + (4 + connectionSize)) → PassedSoFar bytes at n (i + 1) next
+    pub connections-more : (next : ℕ) → HeadSays bytes cursor connectionKind connectionSize × (next ≡ cursor + (4 + connectionSize)) → PassedSoFar bytes at n (i + 1) next
     connections-more next p later = begun later ∙ one-there cursor connectionKind connectionSize (connectionsThen (n - (i + 1)) later) next p
 
-    pub connections-missing : (Says bytes cursor connectionKind connectionSize → ⊥) → (later : List (Head → Bool)) → recordsAre (connectionsThen n later) (drop at bytes) ≡ false
+    pub connections-missing : (HeadSays bytes cursor connectionKind connectionSize → ⊥) → (later : List (Head → Bool)) → recordsAre (connectionsThen n later) (drop at bytes) ≡ false
     connections-missing none later = begun later ∙ one-missing cursor connectionKind connectionSize (connectionsThen (n - (i + 1)) later) none
 
   -- ---- the frame, record by record: each reason to refuse
-  pub wrong-first : (Says bytes 0 countKind countSize → ⊥) → recordsWrong bytes ≡ true
+  pub wrong-first : (HeadSays bytes 0 countKind countSize → ⊥) → recordsWrong bytes ≡ true
   wrong-first none = wrong-are bytes (countIn (piecesOf bytes)) refl (one-missing 0 countKind countSize (connectionsThen (countIn (piecesOf bytes)) treeForm) none)
 
   -- The first record is there, and n is what it counts.
-  module _ (start n : ℕ) (first : Says bytes 0 countKind countSize × (start ≡ 0 + (4 + countSize))) (says : n ≡ littleNumber (take 2 (drop 4 bytes))) where
+  module _ (start n : ℕ) (first : HeadSays bytes 0 countKind countSize × (start ≡ 0 + (4 + countSize))) (says : n ≡ littleNumber (take 2 (drop 4 bytes))) where
     counted : countIn (piecesOf bytes) ≡ n
     counted = count-first bytes (first .0 .size-is) ∙ sym says
 
@@ -111,11 +111,11 @@ module _ (bytes : List ℕ) (small : AllBytes bytes) where
 
     -- So are the connections'.
     module _ (end : ℕ) (each : (later : List (Head → Bool)) → recordsAre (connectionsThen n later) (drop start bytes) ≡ recordsAre later (drop end bytes)) where
-      pub wrong-last : (Says bytes end treeKind treeSize → ⊥) → recordsWrong bytes ≡ true
+      pub wrong-last : (HeadSays bytes end treeKind treeSize → ⊥) → recordsWrong bytes ≡ true
       wrong-last none = wrong-are bytes n counted (after-first ∙ each treeForm ∙ one-missing end treeKind treeSize [] none)
 
       -- And the tree's.
-      module _ (over : ℕ) (last : Says bytes end treeKind treeSize × (over ≡ end + (4 + treeSize))) where
+      module _ (over : ℕ) (last : HeadSays bytes end treeKind treeSize × (over ≡ end + (4 + treeSize))) where
         after-last : recordsAre (form n) bytes ≡ recordsAre [] (drop over bytes)
         after-last = after-first ∙ each treeForm ∙ one-there end treeKind treeSize [] over last
 

@@ -10,7 +10,8 @@ use Rattle.rules.specs.declared.Frame.the-variants.{Counts, Wrong}
 use Rattle.rules.specs.Refusals.{number}
 use Rattle.rules.specs.Steps.{Step, gives, places, passes, refuses}
 use Rattle.rules.specs.Bytes.{littleNumber}
-use Rattle.rules.specs.Form.{Head, isConnection}
+use Rattle.rules.specs.Records.{headerSize}
+use Rattle.rules.specs.Form.{Head, connectionHead}
 use Rattle.rules.specs.Framing.{recordsAre, recordsWrong, Framed}
 use Rattle.frame.specs.declared.Header.{Header}
 use Rattle.frame.specs.declared.Header.the-variants.{Record, CutShort}
@@ -18,24 +19,24 @@ use Rattle.frame.specs.declared.After.{After}
 use Rattle.frame.specs.declared.After.the-variants.{At, Missing}
 
 -- The header at a cursor says this kind and this size, and the whole record is there.
-pub record Says (bytes : List ℕ) (at kind size : ℕ) : Type 0 where
+pub record HeadSays (bytes : List ℕ) (at kind size : ℕ) : Type 0 where
   pub kind-is : littleNumber (take 2 (drop (at + 2) bytes)) ≡ kind
   pub size-is : littleNumber (take 2 (drop at bytes)) ≡ size
-  pub fits : at + (4 + size) ≤ length bytes
+  pub fits : at + (headerSize + size) ≤ length bytes
 
 -- The record at a cursor; or no whole one is there.
 abbrev pub Heads : List ℕ → ℕ → Header → Type 0
-Heads bytes at (Record kind size next) = Says bytes at kind size × (next ≡ at + (4 + size))
-Heads bytes at CutShort = (kind size : ℕ) → Says bytes at kind size → ⊥
+Heads bytes at (Record kind size next) = HeadSays bytes at kind size × (next ≡ at + (headerSize + size))
+Heads bytes at CutShort = (kind size : ℕ) → HeadSays bytes at kind size → ⊥
 
 -- The record that is asked for; or it is not there.
-abbrev pub Passes : List ℕ → ℕ → ℕ → ℕ → After → Type 0
-Passes bytes at kind size (At next) = Says bytes at kind size × (next ≡ at + (4 + size))
-Passes bytes at kind size Missing = Says bytes at kind size → ⊥
+abbrev pub PassesOne : List ℕ → ℕ → ℕ → ℕ → After → Type 0
+PassesOne bytes at kind size (At next) = HeadSays bytes at kind size × (next ≡ at + (headerSize + size))
+PassesOne bytes at kind size Missing = HeadSays bytes at kind size → ⊥
 
 -- n records of connections are asked for, and others after them: it is up to those, from the next cursor on; or one of the n is not there.
 abbrev pub connectionsThen : ℕ → List (Head → Bool) → List (Head → Bool)
-connectionsThen n later = replicate n isConnection ++ later
+connectionsThen n later = replicate n connectionHead ++ later
 
 abbrev pub PassesAll : List ℕ → ℕ → ℕ → After → Type 0
 PassesAll bytes at n (At next) = ((later : List (Head → Bool)) → recordsAre (connectionsThen n later) (drop at bytes) ≡ recordsAre later (drop next bytes)) × (next ≤ length bytes)

@@ -1,13 +1,14 @@
 //! Check 9 of a load: the bytes are an image's records one after the other.
 ghost use Prim.Native.Nat.{_≤_};
 ghost use lib.ListN.{length};
-ghost use Rattle.frame.specs.Promises.{Heads, Passes, PassesAll, ofFrame, Frames};
+ghost use Rattle.frame.specs.Promises.{Heads, PassesOne, PassesAll, ofFrame, Frames};
 use rules::CONNECTION_KIND;
 use rules::CONNECTION_SIZE;
 use rules::COUNT_KIND;
 use rules::COUNT_SIZE;
 use rules::Frame;
 use rules::HANDLES;
+use rules::HEADER_SIZE;
 use rules::TREE_KIND;
 use rules::TREE_SIZE;
 
@@ -23,18 +24,18 @@ enum After {
     Missing,
 }
 
-// Reads the four bytes of a header, where the whole record is there.
+// Reads a header, where the whole record is there.
 fn read_header(bytes: &[u8], at: usize) -> Header
     requires { ⌜ at ≤ length (now bytes) ⌝ }
     ensures { λ r. ⌜ Heads (now (bytes .entry)) at r ⌝ }
 {
     let left = bytes.len() - at;
-    if left < 4 {
+    if left < HEADER_SIZE {
         return Header::CutShort;
     }
     let size = codec::number(bytes, at, 2);
     let kind = codec::number(bytes, at + 2, 2);
-    let whole = size as usize + 4;
+    let whole = size as usize + HEADER_SIZE;
     if left < whole {
         return Header::CutShort;
     }
@@ -48,7 +49,7 @@ fn read_header(bytes: &[u8], at: usize) -> Header
 // Past one record of a kind and a size.
 fn pass(bytes: &[u8], at: usize, kind: u32, size: u32) -> After
     requires { ⌜ at ≤ length (now bytes) ⌝ }
-    ensures { λ r. ⌜ Passes (now (bytes .entry)) at kind size r ⌝ }
+    ensures { λ r. ⌜ PassesOne (now (bytes .entry)) at kind size r ⌝ }
 {
     let read = read_header(bytes, at);
     let Header::Record {
@@ -92,7 +93,7 @@ pub fn framed(bytes: &[u8]) -> Frame
     let After::At(start) = first else {
         return Frame::Wrong;
     };
-    let n = codec::number(bytes, 4, COUNT_SIZE as usize);
+    let n = codec::number(bytes, HEADER_SIZE, COUNT_SIZE as usize);
     if n > HANDLES as u32 {
         return Frame::Wrong;
     }

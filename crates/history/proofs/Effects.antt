@@ -36,8 +36,8 @@ pub record Quiet (m : Made) (x : ℕ) : Type 0 where
 -- What becomes of the connection of x when a call is made in s. Only the last three begin or end it.
 pub data Effect (s : Schedule) (m : Made) (x : ℕ) : Type 0 where
   kept : Quiet m x → connection (m .result .schedule) x ≡ connection s x → Effect s m x
-  moved : Quiet m x → ReportOf (m .request .call) x → (length estimate : ℕ)
-      → connection (m .result .schedule) x ≡ metered (connection s x) length estimate → Effect s m x
+  moved : Quiet m x → ReportOf (m .request .call) x → (L e : ℕ)
+      → connection (m .result .schedule) x ≡ metered (connection s x) L e → Effect s m x
   begun : (i f c k A : ℕ) → AdmissionOf (m .request .call) x i f c → Placed (m .result .answer)
       → isLive s x ≡ false → connection (m .result .schedule) x ≡ newConnection k A f c → Effect s m x
   ended : DropOf (m .request .call) x → m .result .answer ≡ dropped → connection (m .result .schedule) x ≡ nobody → Effect s m x

@@ -68,10 +68,10 @@ module _ {E : Type 0} (of : E → Answer) (no : Refusal → E) (names : (why : R
 abbrev whole : Outcome → Answer → Outcome
 whole o a = record { answer = a; schedule = o .schedule }
 
-changing : (L aim : ℕ) (room : Bool) → (e : Reporting) × (ofReporting e ≡ change L aim room)
-changing L aim room =
-    change-cases L aim room (λ a M. (e : Reporting) × (ofReporting e ≡ a))
-    (λ q. (Kept L, refl)) (λ l. (Shrunk aim, refl)) (λ l q. (Grown (L + 1), refl)) (λ l q. (Tight L, refl))
+changing : (L goal : ℕ) (room : Bool) → (e : Reporting) × (ofReporting e ≡ change L goal room)
+changing L goal room =
+    change-cases L goal room (λ a M. (e : Reporting) × (ofReporting e ≡ a))
+    (λ q. (Kept L, refl)) (λ l. (Shrunk goal, refl)) (λ l q. (Grown (L + 1), refl)) (λ l q. (Tight L, refl))
 
 reporting : (f : ℕ → Bool) (c : Connection) (sample : ℕ) → (e : Reporting) × (ofReporting e ≡ reportAnswer f c sample)
 unfolding reportAnswer

@@ -26,10 +26,6 @@ DropOf call x = call ≡ Drop x
 abbrev pub ReportOf : Call → ℕ → Type 0
 ReportOf call x = (sample : ℕ) × (call ≡ Report x sample)
 
--- what moves its anchor, and does not end it: no call,
-abbrev pub MoveOf : Call → ℕ → Type 0
-MoveOf call x = ⊥
-
 -- a restore of bytes.
 abbrev pub RestoreOf : Call → Bytes → Type 0
 RestoreOf call bytes = call ≡ Load bytes
@@ -55,6 +51,10 @@ pub data Ends (m : Made) (x : ℕ) : Type 0 where
   drops : DropOf (m .request .call) x → m .result .answer ≡ dropped → Ends m x
   replaced : (bytes : Bytes) → Restores m bytes → Ends m x
 
+-- It moves to another anchor, and does not end: no call does that.
+abbrev pub Moves : Made → ℕ → Type 0
+Moves m x = ⊥
+
 -- ---- two moments
 -- Of none of the calls between.
 abbrev pub Never : (Made → Type 0) → List Made → Type 0
@@ -71,7 +71,7 @@ Unreported x between = Never (λ m. ReportOf (m .request .call) x) between
 
 -- No call between moves its anchor.
 abbrev pub Unmoved : ℕ → List Made → Type 0
-Unmoved x between = Never (λ m. MoveOf (m .request .call) x) between
+Unmoved x between = Never (λ m. Moves m x) between
 
 -- A call begins x, and none ends it up to the end of the run.
 pub record Alive (x floor ceiling : ℕ) (run : Run) : Type 0 where

@@ -10,6 +10,7 @@ use frame::framed;
 use restore::records_sound;
 use restore::restore;
 use rules::Frame;
+use rules::HEADER_SIZE;
 use rules::Loaded;
 use rules::Loading;
 use rules::Refusal;
@@ -54,7 +55,7 @@ pub fn load(s: Schedule, bytes: &[u8]) -> Loaded
             schedule: s,
         };
     }
-    if !ends_with(bytes, new.end + 4, &new.schedule.tree.bytes) {
+    if !ends_with(bytes, new.end + HEADER_SIZE, &new.schedule.tree.bytes) {
         return Loaded {
             answer: Loading::Refused(Refusal::TreeDiffers),
             schedule: s,

@@ -6,7 +6,7 @@ ghost use lib.Seq.{sets};
 ghost use Rattle.rules.specs.Ownership.{handles};
 ghost use Rattle.rules.specs.TreeBytes.{treeBytes};
 ghost use Rattle.rules.specs.Good.{Good};
-ghost use Rattle.rules.specs.Records.{bytesOf, joined};
+ghost use Rattle.rules.specs.Records.{headerSize, bytesOf, joined};
 ghost use Rattle.rules.specs.Form.{treeSize};
 ghost use Rattle.rules.specs.Image.{connectionPieces};
 ghost use Rattle.image.specs.Promises.{Saves, PutsConnections, treeRecord};
@@ -20,6 +20,7 @@ use rules::COUNT_KIND;
 use rules::COUNT_SIZE;
 use rules::Connection;
 use rules::HANDLES;
+use rules::HEADER_SIZE;
 use rules::Refusal;
 use rules::Saving;
 use rules::Schedule;
@@ -57,12 +58,12 @@ fn put_connections(buffer: &mut [u8], at: usize, connections: [Connection; HANDL
 }
 
 fn put_tree(buffer: &mut [u8], at: usize, tree: &[u8; TREE_BYTES])
-    requires { ⌜ (at + (4 + treeSize) ≤ length (now buffer)) × (length (now tree) ≡ treeBytes) ⌝ }
+    requires { ⌜ (at + (headerSize + treeSize) ≤ length (now buffer)) × (length (now tree) ≡ treeBytes) ⌝ }
     ensures { λ _. ⌜ now (buffer .exit) ≡ sets (now (buffer .entry)) at (bytesOf (treeRecord (now (tree .entry)))) ⌝ }
 {
     put_header(buffer, at, TREE_SIZE, TREE_KIND);
     for i in 0..TREE_BYTES {
-        buffer[at + 4 + i] = tree[i];
+        buffer[at + HEADER_SIZE + i] = tree[i];
     }
 }
 
@@ -77,7 +78,7 @@ pub fn save(s: Schedule, buffer: &mut [u8]) -> Saving
         return Saving::Refused(Refusal::BufferShort);
     }
     put_header(buffer, 0, COUNT_SIZE, COUNT_KIND);
-    put_number(buffer, 4, COUNT_SIZE as usize, n as u32);
+    put_number(buffer, HEADER_SIZE, COUNT_SIZE as usize, n as u32);
     let next = put_connections(buffer, COUNT_RECORD, s.connections);
     put_tree(buffer, next, &s.tree.bytes);
     Saving::Size(size)

@@ -6,7 +6,7 @@ ghost use lib.ListN.{length};
 ghost use lib.Seq.{sets};
 ghost use Rattle.rules.specs.Ownership.{handles};
 ghost use Rattle.rules.specs.Bytes.{little};
-ghost use Rattle.rules.specs.Records.{bytesOf};
+ghost use Rattle.rules.specs.Records.{headerSize, bytesOf};
 ghost use Rattle.rules.specs.Form.{connectionSize};
 ghost use Rattle.rules.specs.Image.{connectionPiece};
 use codec::put_number;
@@ -14,18 +14,19 @@ use rules::CONNECTION_KIND;
 use rules::CONNECTION_SIZE;
 use rules::COUNT_SIZE;
 use rules::Connection;
+use rules::HEADER_SIZE;
 use rules::TREE_SIZE;
 
-// The bytes of each record: a header of four, and its payload.
-pub const COUNT_RECORD: usize = 4 + COUNT_SIZE as usize;
+// The bytes of each record: its header and its payload.
+pub const COUNT_RECORD: usize = HEADER_SIZE + COUNT_SIZE as usize;
 
-pub const CONNECTION_RECORD: usize = 4 + CONNECTION_SIZE as usize;
+pub const CONNECTION_RECORD: usize = HEADER_SIZE + CONNECTION_SIZE as usize;
 
-pub const TREE_RECORD: usize = 4 + TREE_SIZE as usize;
+pub const TREE_RECORD: usize = HEADER_SIZE + TREE_SIZE as usize;
 
 // A record's length and kind.
 pub fn put_header(buffer: &mut [u8], at: usize, size: u32, kind: u32)
-    requires { ⌜ at + 4 ≤ length (now buffer) ⌝ }
+    requires { ⌜ at + headerSize ≤ length (now buffer) ⌝ }
     ensures { λ _. ⌜ now (buffer .exit) ≡ sets (now (buffer .entry)) at (little 2 size ++ little 2 kind) ⌝ }
 {
     put_number(buffer, at, 2, size);
@@ -55,10 +56,10 @@ fn put_share(buffer: &mut [u8], at: usize, c: Connection)
 
 // The record of a connection.
 pub fn put_connection(buffer: &mut [u8], at: usize, handle: usize, c: Connection)
-    requires { ⌜ (at + (4 + connectionSize) ≤ length (now buffer)) × (handle < handles) ⌝ }
+    requires { ⌜ (at + (headerSize + connectionSize) ≤ length (now buffer)) × (handle < handles) ⌝ }
     ensures { λ _. ⌜ now (buffer .exit) ≡ sets (now (buffer .entry)) at (bytesOf (connectionPiece handle c)) ⌝ }
 {
     put_header(buffer, at, CONNECTION_SIZE, CONNECTION_KIND);
-    put_run(buffer, at + 4, handle, c);
+    put_run(buffer, at + HEADER_SIZE, handle, c);
     put_share(buffer, at + 10, c);
 }

@@ -9,20 +9,20 @@ use lib.Dec.{eqb}
 use lib.ListN.{length, replicate}
 use borrow.Author.Tests.{eq-eqb, ne-eqb, eqb-true}
 use Rattle.rules.specs.Records.{Piece}
-use Rattle.rules.specs.Form.{Head, headOf, headed, countKind, countSize, isCount, connectionKind, connectionSize, isConnection, treeKind, treeSize, isTree, form, formed}
+use Rattle.rules.specs.Form.{Head, headOf, headed, countKind, countSize, countHead, connectionKind, connectionSize, connectionHead, treeKind, treeSize, treeHead, form, formed}
 use Rattle.rules.specs.Fields.{connectionsIn, treeIn}
 use Rattle.basics.proofs.BoolLaws.{both}
 use Rattle.images.proofs.PieceLaws.{Each}
 
 -- This kind and this size.
-pub record Has (kind size : ℕ) (h : Head) : Type 0 where
+pub record HeadIs (kind size : ℕ) (h : Head) : Type 0 where
   pub kind-is : h .kind ≡ kind
   pub size-is : h .size ≡ size
 
 abbrev pub IsConnection : Piece → Type 0
-IsConnection r = Has connectionKind connectionSize (headOf r)
+IsConnection r = HeadIs connectionKind connectionSize (headOf r)
 
-pub headed-exactly : (kind size : ℕ) (h : Head) → (headed kind size h ≡ true) ↔ Has kind size h
+pub headed-exactly : (kind size : ℕ) (h : Head) → (headed kind size h ≡ true) ↔ HeadIs kind size h
 unfolding headed
 headed-exactly kind size h = (
   λ e.
@@ -38,9 +38,9 @@ pub record Parts (n : ℕ) (rs : List Piece) : Type 0 where
   pub last : Piece
   pub whole : rs ≡ first ∷ (each ++ (last ∷ []))
   pub number : length each ≡ n
-  pub counts : Has countKind countSize (headOf first)
+  pub counts : HeadIs countKind countSize (headOf first)
   pub connections : Each IsConnection each
-  pub ends : Has treeKind treeSize (headOf last)
+  pub ends : HeadIs treeKind treeSize (headOf last)
 
 -- ---- the records after the first
 record Rest (n : ℕ) (rs : List Piece) : Type 0 where
@@ -49,7 +49,7 @@ record Rest (n : ℕ) (rs : List Piece) : Type 0 where
   pub whole : rs ≡ each ++ (last ∷ [])
   pub number : length each ≡ n
   pub connections : Each IsConnection each
-  pub ends : Has treeKind treeSize (headOf last)
+  pub ends : HeadIs treeKind treeSize (headOf last)
 
 one-more : (n : ℕ) (r : Piece) (rs : List Piece) → IsConnection r → Rest n rs → Rest (suc n) (r ∷ rs)
 one-more n r rs c w =
@@ -63,20 +63,20 @@ one-more n r rs c w =
     }
 
 abbrev restForm : ℕ → List (Head → Bool)
-restForm n = replicate n isConnection ++ (isTree ∷ [])
+restForm n = replicate n connectionHead ++ (treeHead ∷ [])
 
 rest-of : (n : ℕ) (rs : List Piece) → formed (restForm n) (map headOf rs) ≡ true → Rest n rs
 unfolding formed
 rest-of zero [] e = absurd (false≢true e)
 rest-of zero (r ∷ []) e =
-    record { each = []; last = r; whole = refl; number = refl; connections = tt; ends = headed-exactly treeKind treeSize (headOf r) .0 (both (isTree (headOf r)) true e .0) }
-rest-of zero (r ∷ r′ ∷ rs) e = absurd (false≢true (both (isTree (headOf r)) false e .1))
+    record { each = []; last = r; whole = refl; number = refl; connections = tt; ends = headed-exactly treeKind treeSize (headOf r) .0 (both (treeHead (headOf r)) true e .0) }
+rest-of zero (r ∷ r′ ∷ rs) e = absurd (false≢true (both (treeHead (headOf r)) false e .1))
 rest-of (suc n) [] e = absurd (false≢true e)
 rest-of (suc n) (r ∷ rs) e =
-    let p = both (isConnection (headOf r)) (formed (restForm n) (map headOf rs)) e in
+    let p = both (connectionHead (headOf r)) (formed (restForm n) (map headOf rs)) e in
     one-more n r rs (headed-exactly connectionKind connectionSize (headOf r) .0 (p .0)) (rest-of n rs (p .1))
 
-rest-formed : (each : List Piece) (last : Piece) → Each IsConnection each → Has treeKind treeSize (headOf last) → formed (restForm (length each)) (map headOf (each ++ (last ∷ []))) ≡ true
+rest-formed : (each : List Piece) (last : Piece) → Each IsConnection each → HeadIs treeKind treeSize (headOf last) → formed (restForm (length each)) (map headOf (each ++ (last ∷ []))) ≡ true
 unfolding formed
 rest-formed [] last c t = ap (λ (v : Bool). v && true) (headed-exactly treeKind treeSize (headOf last) .1 t)
 rest-formed (r ∷ rs) last c t = ap₂ _&&_ (headed-exactly connectionKind connectionSize (headOf r) .1 (c .0)) (rest-formed rs last (c .1) t)
@@ -86,7 +86,7 @@ pub form-parts : (n : ℕ) (rs : List Piece) → formed (form n) (map headOf rs)
 unfolding formed
 form-parts n [] e = absurd (false≢true e)
 form-parts n (r ∷ rs) e =
-    let p = both (isCount (headOf r)) (formed (restForm n) (map headOf rs)) e in
+    let p = both (countHead (headOf r)) (formed (restForm n) (map headOf rs)) e in
     let w = rest-of n rs (p .1) in
     record {
       first = r;
@@ -107,7 +107,7 @@ parts-form n rs p =
     (ap (λ (m : ℕ). formed (restForm m) (map headOf (p .each ++ (p .last ∷ [])))) (sym (p .number)) ∙ rest-formed (p .each) (p .last) (p .connections) (p .ends))
 
 -- ---- what is in them
-rest-inside : (each : List Piece) (last : Piece) → Each IsConnection each → Has treeKind treeSize (headOf last)
+rest-inside : (each : List Piece) (last : Piece) → Each IsConnection each → HeadIs treeKind treeSize (headOf last)
     → (connectionsIn (each ++ (last ∷ [])) ≡ each) × (treeIn (each ++ (last ∷ [])) ≡ last .payload)
 unfolding connectionsIn treeIn
 rest-inside [] last c t =
@@ -119,7 +119,7 @@ rest-inside (r ∷ rs) last c t =
     (rw (eq-eqb (r .kind) 2 k) (ap {B = List Piece} (λ l. r ∷ l) (later .0)), rw (ne-eqb (r .kind) 3 (omega arith)) (later .1))
 
 -- The connections' records are those between, and the tree bytes those of the last.
-pub inside : (first : Piece) (each : List Piece) (last : Piece) → Has countKind countSize (headOf first) → Each IsConnection each → Has treeKind treeSize (headOf last)
+pub inside : (first : Piece) (each : List Piece) (last : Piece) → HeadIs countKind countSize (headOf first) → Each IsConnection each → HeadIs treeKind treeSize (headOf last)
     → (connectionsIn (first ∷ (each ++ (last ∷ []))) ≡ each) × (treeIn (first ∷ (each ++ (last ∷ []))) ≡ last .payload)
 unfolding connectionsIn treeIn
 inside first each last f c t =

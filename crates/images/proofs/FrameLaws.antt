@@ -10,13 +10,13 @@ use lib.Seq.{take-add, take-all, getD-append-seam}
 use borrow.Author.Tests.{le-leb, leb-true, eq-eqb, not-false}
 use Rattle.rules.specs.Ownership.{handles}
 use Rattle.rules.specs.Bytes.{little, littleNumber, same}
-use Rattle.rules.specs.Records.{Piece, bytesOf, joined, begin, nth, piecesIn, piecesOf}
+use Rattle.rules.specs.Records.{Piece, bytesOf, joined, begin, piecesIn, piecesOf}
 use Rattle.rules.specs.Form.{Head, headOf, connectionSize, treeSize, form, formed}
 use Rattle.rules.specs.Framing.{countIn, recordsAre, recordsWrong, Framed}
 use Rattle.rules.specs.Fields.{connectionsIn, treeIn}
 use Rattle.basics.proofs.BoolLaws.{both, is-false}
 use Rattle.basics.proofs.BytesLaws.{AllBytes, bytes-take, bytes-drop, little-number, number-lt, number-little, same-exactly}
-use Rattle.images.proofs.PieceLaws.{record-length, each-nth, pieces-small, begin-next, begin-here, stands-whole, stands-size, stands-part}
+use Rattle.images.proofs.PieceLaws.{nth, record-length, each-nth, pieces-small, begin-next, begin-here, stands-whole, stands-size, stands-part}
 use Rattle.images.proofs.FormLaws.{IsConnection, Parts, form-parts, parts-form, connections-inside, tree-inside}
 
 -- ---- the record that bytes begin with
@@ -35,9 +35,9 @@ abbrev pieceFrom : List ℕ → Piece
 pieceFrom d = record { kind = littleNumber (take 2 (drop 2 d)); payload = take (littleNumber (take 2 d)) (drop 4 d) }
 
 -- It and what is after it are the bytes.
-begins : (d : List ℕ) → AllBytes d → 4 + headFrom d .size ≤ length d → bytesOf (pieceFrom d) ++ drop (4 + headFrom d .size) d ≡ d
+opens-with : (d : List ℕ) → AllBytes d → 4 + headFrom d .size ≤ length d → bytesOf (pieceFrom d) ++ drop (4 + headFrom d .size) d ≡ d
 unfolding bytesOf
-begins d h l =
+opens-with d h l =
     let size = headFrom d .size in
     let kind = headFrom d .kind in
     let len : length (take size (drop 4 d)) ≡ size = simp (length-take, length-drop) (omega arith) in
@@ -101,7 +101,7 @@ module _ (d : List ℕ) (small : AllBytes d) (asked : Head → Bool) (later : Li
       let len : length (r .payload) ≡ headFrom d .size = simp (length-take, length-drop) (omega arith) in
       let head : headOf r ≡ headFrom d = λ i. record { kind = r .kind; size = len i } in
       let after : same (bytesOf r ++ joined (piecesOf rest)) d ≡ same (joined (piecesOf rest)) rest =
-      ap (same (bytesOf r ++ joined (piecesOf rest))) (sym (begins d small l)) ∙ same-append (bytesOf r) (joined (piecesOf rest)) rest in
+      ap (same (bytesOf r ++ joined (piecesOf rest))) (sym (opens-with d small l)) ∙ same-append (bytesOf r) (joined (piecesOf rest)) rest in
       ap (λ (rs : List Piece). same (joined rs) d && formed (asked ∷ later) (map headOf rs)) (pieces-first d l)
       ∙ ap₂ (λ (v : Bool) (h : Head). v && (asked h && formed later (map headOf (piecesOf rest)))) after head
       ∙ swap (same (joined (piecesOf rest)) rest) (asked (headFrom d)) (formed later (map headOf (piecesOf rest)))
@@ -165,7 +165,7 @@ framed-exactly bytes n f =
       parts = subst (λ (k : ℕ). Parts k rs) (f .counts) (form-parts (countIn rs) rs (q .1));
     }
 
--- Each record stands where it begins, and says where the next does.
+-- Each record stands where it opens-with, and says where the next does.
 module _ (bytes : List ℕ) (n : ℕ) (f : Framed bytes n) (small : AllBytes bytes) where
   framed-stands : (i : ℕ) → i < length (piecesOf bytes) → drop (begin (piecesOf bytes) i) bytes ≡ bytesOf (nth (piecesOf bytes) i) ++ joined (drop (suc i) (piecesOf bytes))
   framed-stands i l = ap (λ (b : List ℕ). drop (begin (piecesOf bytes) i) b) (sym (framed-exactly bytes n f .records)) ∙ begin-here (piecesOf bytes) i l

@@ -33,7 +33,7 @@ use Rattle.calls.proofs.EachLaws.{liveCount, count-most, each-count}
 use Rattle.basics.proofs.BytesLaws.{AllBytes, bytes-append, little-bytes, little-number, number-little, same-exactly}
 use Rattle.images.proofs.RisingLaws.{soundFrom, sound-from, rising-exactly}
 use Rattle.images.proofs.PieceLaws.{Fitting, Each, record-length, joined-append, pieces-joined, pieces-bytes, numbers-narrow, connection-read, connection-written}
-use Rattle.images.proofs.FormLaws.{Has, IsConnection, Parts, parts-form, connections-inside, tree-inside}
+use Rattle.images.proofs.FormLaws.{HeadIs, IsConnection, Parts, parts-form, connections-inside, tree-inside}
 use Rattle.images.proofs.FrameLaws.{framed-exactly, framed-of}
 
 -- The same connections, with every slot that is not live set to zeros.
@@ -111,7 +111,7 @@ module _ (P : Piece → Type 0) (each : (h : ℕ) (c : Connection) → P (connec
       (count (length each), each-append P each (treePiece s ∷ []) (each-connection 0 (s .connections)) (tree, tt))
 
 -- The kind and the size of each.
-count-has : (n : ℕ) → Has countKind countSize (headOf (countPiece n))
+count-has : (n : ℕ) → HeadIs countKind countSize (headOf (countPiece n))
 unfolding countPiece
 count-has n = record { kind-is = refl; size-is = refl }
 
@@ -119,7 +119,7 @@ pub connection-has : (h : ℕ) (c : Connection) → IsConnection (connectionPiec
 unfolding connectionPiece
 connection-has h c = record { kind-is = refl; size-is = refl }
 
-tree-has : (s : Schedule) → Has treeKind treeSize (headOf (treePiece s))
+tree-has : (s : Schedule) → HeadIs treeKind treeSize (headOf (treePiece s))
 unfolding treePiece
 tree-has s = record { kind-is = refl; size-is = tree-sized (taken (s .connections)) .long }
 
@@ -374,7 +374,7 @@ module _ (s : Schedule) (long : length (s .connections) ≡ handles) (isSound : 
   read : piecesOf (image s) ≡ pieces s
   unfolding image
   read =
-      let fits : (kind size : ℕ) (r : Piece) → kind < 65536 → size < 65536 → Has kind size (headOf r) → Fitting r = λ kind size r k l h. record { kind-fits = omega (arith, h .kind-is); size-fits = omega (arith, h .size-is) } in
+      let fits : (kind size : ℕ) (r : Piece) → kind < 65536 → size < 65536 → HeadIs kind size (headOf r) → Fitting r = λ kind size r k l h. record { kind-fits = omega (arith, h .kind-is); size-fits = omega (arith, h .size-is) } in
       pieces-joined (pieces s)
       (each-piece Fitting (λ h c. fits connectionKind connectionSize (connectionPiece h c) (omega arith) (omega arith) (connection-has h c)) s
       (λ n. fits countKind countSize (countPiece n) (omega arith) (omega arith) (count-has n))

@@ -5,17 +5,21 @@ use mathlib.Core.List.{List, [], _∷_, _++_, append-assoc}
 use Prim.Native.Nat.{ℕ, zero, suc, _+_, _^_, _<_, _≤_}
 use native.Mathlib.Omega.{arith}
 use lib.Pow.{pow-mono}
-use lib.ListN.{length, take, drop, length-append, length-take, length-drop, take-append-drop}
+use lib.ListN.{length, getD, take, drop, length-append, length-take, length-drop, take-append-drop}
 use lib.Seq.{take-at, drop-at, take-all, take-add, take-suc, drop-cons, drop-drop, drop-append-seam, take-append-le, drop-append-le}
 use Rattle.rules.specs.declared.Connection.{Connection}
 use Rattle.rules.specs.Bytes.{little, littleNumber}
-use Rattle.rules.specs.Records.{Piece, bytesOf, joined, begin, nth, piecesIn, piecesOf}
+use Rattle.rules.specs.Records.{Piece, bytesOf, joined, begin, piecesIn, piecesOf}
 use Rattle.rules.specs.Form.{connectionKind, connectionSize}
 use Rattle.rules.specs.Image.{connectionPiece}
 use Rattle.rules.specs.Fields.{fieldIn, handleIn, connectionIn}
 use Rattle.rules.specs.Sound.{Numbers}
 use Rattle.basics.proofs.BytesLaws.{AllBytes, bytes-take, bytes-drop, little-number, number-little}
 use Rattle.blocks.proofs.ClassLaws.{within-depth}
+
+-- Record i, from 0 on.
+abbrev pub nth : List Piece → ℕ → Piece
+nth rs i = getD rs i (record { kind = 0; payload = [] })
 
 -- The kind and the length of a record fit in two bytes each.
 pub record Fitting (r : Piece) : Type 0 where

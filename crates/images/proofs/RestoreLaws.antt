@@ -14,12 +14,13 @@ use borrow.Author.Tests.{lt-ltb, ltb-true}
 use Rattle.rules.specs.declared.Connection.{Connection}
 use Rattle.rules.specs.Time.{minusMod}
 use Rattle.rules.specs.Ownership.{handles, nobody, at, owns, taken}
-use Rattle.rules.specs.Classes.{runFree, setRun}
+use Rattle.rules.specs.Classes.{runFree}
+use Rattle.blocks.specs.Taking.{setRun}
 use Rattle.rules.specs.TreeBytes.{treeOf}
 use Rattle.rules.specs.Sound.{soundNumbers, allSound, apart, soundConnections}
 use Rattle.rules.specs.Good.{treeFor}
 use Rattle.rules.specs.Admit.{isOpen}
-use Rattle.rules.specs.Records.{Piece, nth}
+use Rattle.rules.specs.Records.{Piece}
 use Rattle.rules.specs.Fields.{handleIn, connectionIn}
 use Rattle.rules.specs.Load.{allNumbersSound, rising, soundRecords, atHandles}
 use Rattle.basics.proofs.BoolLaws.{both, is-false}
@@ -31,6 +32,7 @@ use Rattle.blocks.proofs.ScheduleLaws.{nobody-owns, at-same, at-other, others, 
 use Rattle.calls.proofs.AdmitLaws.{RunFreeEver, open-ever, open-nobody}
 use Rattle.images.proofs.RisingLaws.{soundFrom, sound-from, rising-exactly}
 use Rattle.images.proofs.ImageLaws.{at-free}
+use Rattle.images.proofs.PieceLaws.{nth}
 
 -- ---- what the records restore
 pub restored-length : (rs : List Piece) → length (atHandles rs) ≡ handles

@@ -12,7 +12,8 @@ use Rattle.rules.specs.declared.Line.the-variants.{Says, Bad}
 use Rattle.rules.specs.Bytes.{same}
 use Rattle.rules.specs.Split.{before}
 use Rattle.rules.specs.Text.{text}
-use Rattle.rules.specs.Commands.{mostNumbers, isForm, named, says}
+use Rattle.rules.specs.Commands.{isForm, named, says}
+use Rattle.texts.specs.Row.{mostNumbers}
 use Rattle.texts.specs.Row.{IsRow}
 use Rattle.basics.proofs.BoolLaws.{and-true, both, is-false}
 use Rattle.texts.proofs.SplitLaws.{before-take}
@@ -50,24 +51,24 @@ module _ (word ns : List ℕ) where
     unfolding named
     named-drop h = rw (admit, h)
 
-    module _ (drop : Lacks (text "drop") 1) where
+    module _ (noDrop : Lacks (text "drop") 1) where
       pub named-report : Has (text "report") 2 → Says (Report (getD ns 0 0) (getD ns 1 0)) ≡ named word ns
       unfolding named
-      named-report h = rw (admit, drop, h)
+      named-report h = rw (admit, noDrop, h)
 
       module _ (report : Lacks (text "report") 2) where
         pub named-owner : Has (text "owner") 1 → Says (Owner (getD ns 0 0)) ≡ named word ns
         unfolding named
-        named-owner h = rw (admit, drop, report, h)
+        named-owner h = rw (admit, noDrop, report, h)
 
         module _ (owner : Lacks (text "owner") 1) where
           pub named-anchor : Has (text "anchor") 2 → Says (Anchor (getD ns 0 0) (getD ns 1 0)) ≡ named word ns
           unfolding named
-          named-anchor h = rw (admit, drop, report, owner, h)
+          named-anchor h = rw (admit, noDrop, report, owner, h)
 
           pub named-nothing : Lacks (text "anchor") 2 → Bad ≡ named word ns
           unfolding named
-          named-nothing h = rw (admit, drop, report, owner, h)
+          named-nothing h = rw (admit, noDrop, report, owner, h)
 
 -- ---- a line: the word ends at the first space
 module _ (line : List ℕ) (stop : ℕ) (q : stop ≡ length (before 32 line)) (entry exit : List ℕ) where

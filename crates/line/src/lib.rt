@@ -8,7 +8,7 @@ use text::find;
 use text::is_word;
 use text::read_row;
 
-// As many as the longest form has: mostNumbers of specs/Commands.
+// As many as the longest form has: mostNumbers.
 const MOST_NUMBERS: usize = 4;
 
 // Whether a word and its numbers have a form: its word, and so many numbers.

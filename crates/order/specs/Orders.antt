@@ -3,7 +3,7 @@ use Prim.Native.Nat.{ℕ}
 use mathlib.Core.Bool.{Bool, true, _&&_, cond}
 use mathlib.Core.List.{List, [], _∷_, _++_}
 use lib.Dec.{leb}
-use lib.ListN.{take, drop}
+use lib.ListN.{length, take, drop}
 use Rattle.rules.specs.declared.Command.{Command}
 use Rattle.rules.specs.declared.Line.{Line}
 use Rattle.rules.specs.declared.Line.the-variants.{Says, Bad}
@@ -59,9 +59,9 @@ ordered line =
     cond (same line (text "fresh")) fresh
     (cond (same line (text "state")) state
     (cond (same line (text "save")) save
-    (cond (same (take 5 line) (text "save ")) (saveInto (value (drop 5 line)))
+    (cond (same (take (length (text "save ")) line) (text "save ")) (saveInto (value (drop (length (text "save ")) line)))
     (cond (same line (text "load")) (load [])
-    (cond (same (take 5 line) (text "load ")) (load (unhex (drop 5 line))) (ofLine (guess line)))))))
+    (cond (same (take (length (text "load ")) line) (text "load ")) (load (unhex (drop (length (text "load ")) line))) (ofLine (guess line)))))))
 
 -- A line asks for the order that it is when written out; anything else is bad.
 unfoldable pub asks : List ℕ → Order

@@ -12,7 +12,7 @@ use lib.Pow.{pow-pos, pow-mono, shl-exact}
 use lib.ListN.{length, getD, set, length-set}
 use lib.Seq.{getD-set-same, getD-set-other}
 use Rattle.rules.specs.declared.Refusal.the-variants.{NoOpenAnchor}
-use Rattle.rules.specs.Classes.{classTaken, free, runFree}
+use Rattle.rules.specs.Classes.{classTaken, free, runFree, depth}
 use Rattle.rules.specs.Mirror.{mirrored}
 use Rattle.rules.specs.TreeBytes.{bitAt}
 use Rattle.rules.specs.Refusals.{number}
@@ -75,7 +75,7 @@ measured-none k row room h =
       clear = λ A i l m h. absurd (omega arith);
     }
 
-module _ (k c n : ℕ) (row : List Bool) (room : List ℕ) (hk : k ≤ 9) (r : MeasuredFrom k (c + 1) n row room) where
+module _ (k c n : ℕ) (row : List Bool) (room : List ℕ) (hk : k ≤ depth) (r : MeasuredFrom k (c + 1) n row room) where
   -- One class more, from which m are free.
   measured-more : (m : ℕ) → c + m ≤ 2 ^ k → (m ≡ 0 → getD row c false ≡ true) → ((i : ℕ) → i < m → getD row (c + i) false ≡ false) → MeasuredFrom k c m row (set room c m)
   measured-more m w z a =
@@ -125,7 +125,7 @@ pub record ReadTo (k p : ℕ) (tree : List ℕ) (taken : List Bool) (anchors : L
 pub read-none : (k : ℕ) (tree : List ℕ) (taken : List Bool) (anchors : List ℕ) → Long taken anchors → ReadTo k 0 tree taken anchors
 read-none k tree taken anchors l = record { long = l; order = λ q h. absurd (omega arith); bits = λ q h. absurd (omega arith) }
 
-pub read-more : (k p : ℕ) (tree : List ℕ) (taken : List Bool) (anchors : List ℕ) (v : Bool) → k ≤ 9 → p < 2 ^ k → v ≡ bitAt tree (2 ^ k + p)
+pub read-more : (k p : ℕ) (tree : List ℕ) (taken : List Bool) (anchors : List ℕ) (v : Bool) → k ≤ depth → p < 2 ^ k → v ≡ bitAt tree (2 ^ k + p)
     → ReadTo k p tree taken anchors → ReadTo k (p + 1) tree (set taken (mirrored k p) v) (set anchors p (mirrored k p))
 read-more k p tree taken anchors v hk hp e r =
     let g : 2 ^ k ≤ 512 = pow-mono hk in
@@ -153,7 +153,7 @@ bit-of (suc k) p h l = omega arith
 abbrev pub turned : ℕ → List ℕ → ℕ → ℕ
 turned k anchors p = getD anchors (p / 2) 0 / 2 + bitAnd p 1 * 2 ^ (k - 1) % 2 ^ 32
 
-pub turned-is : (k p : ℕ) (tree : List ℕ) (taken : List Bool) (anchors : List ℕ) → k ≤ 9 → 0 < p → p < 2 ^ k → ReadTo k p tree taken anchors → turned k anchors p ≡ mirrored k p
+pub turned-is : (k p : ℕ) (tree : List ℕ) (taken : List Bool) (anchors : List ℕ) → k ≤ depth → 0 < p → p < 2 ^ k → ReadTo k p tree taken anchors → turned k anchors p ≡ mirrored k p
 turned-is k p tree taken anchors hk hp l r =
     rw (r .order (p / 2) (omega arith), and-mask p 1, shl-exact {a = p % 2} 1 (k - 1) 32 (omega arith) (omega arith))
     (mirror-by-half k p (bit-of k p hp l))

@@ -5,6 +5,7 @@ use mathlib.Core.Option.{Option, none, some}
 use Prim.Native.Nat.{ℕ, _*_, _^_, _<_, _≤_}
 use native.Mathlib.Omega.{arith}
 use borrow.Author.Tests.{le-leb, lt-leb, lt-ltb, le-ltb, eq-eqb, ne-eqb}
+use Rattle.rules.specs.Ownership.{largestK}
 use Rattle.rules.specs.declared.Refusal.the-variants.{HandleLive, IntervalOutside, ShareWrong, NoOpenAnchor}
 use Rattle.rules.specs.Core.{isInterval}
 use Rattle.rules.specs.Mirror.{mirrored}
@@ -14,7 +15,7 @@ use Rattle.rules.specs.Steps.{Step, gives, places, passes, refuses}
 use Rattle.place.specs.Steps.{intervalStep, shareStep, placeAt, placeStep, planStep}
 use Rattle.calls.proofs.AdmitLaws.{k-is}
 
-pub interval-gives : (k i : ℕ) → k ≤ 9 → 6 * 2 ^ k ≤ i → i < 12 * 2 ^ k → (6 ≤ i) × (i ≤ 3200) → gives k ≡ intervalStep i
+pub interval-gives : (k i : ℕ) → k ≤ largestK → 6 * 2 ^ k ≤ i → i < 12 * 2 ^ k → (6 ≤ i) × (i ≤ 3200) → gives k ≡ intervalStep i
 unfolding intervalStep isInterval
 interval-gives k i h l m b = rw (le-leb 6 i (b .0), le-leb i 3200 (b .1), k-is k i h l m)
 

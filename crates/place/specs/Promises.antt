@@ -49,8 +49,8 @@ abbrev pub Searches : ℕ → ℕ → List ℕ → Place → Type 0
 Searches k floor room r = (taken : ℕ → Bool) → Stretches k taken room → ofPlace r ≡ placeStep taken k floor
 
 -- The first open anchor, by the tree of what is taken.
-abbrev pub Places : ℕ → ℕ → List ℕ → Place → Type 0
-Places k floor tree r = ByTree tree (ofPlace r) (λ taken. placeStep taken k floor)
+abbrev pub FindsFirst : ℕ → ℕ → List ℕ → Place → Type 0
+FindsFirst k floor tree r = ByTree tree (ofPlace r) (λ taken. placeStep taken k floor)
 
 abbrev pub Plans : Bool → ℕ → ℕ → ℕ → List ℕ → Plan → Type 0
 Plans live slots floor ceiling tree r = ByTree tree (ofPlan r) (λ taken. planStep live taken slots floor ceiling)

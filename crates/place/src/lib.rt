@@ -6,7 +6,7 @@ ghost use Rattle.rules.specs.Time.{listBlocks};
 ghost use Rattle.rules.specs.Classes.{depth};
 ghost use Rattle.place.specs.Steps.{ofInterval, ofShare, intervalStep, shareStep};
 ghost use Rattle.tree.specs.Promises.{IsTree};
-ghost use Rattle.place.specs.Promises.{Anchors, Reads, MeasuresRoom, IsRoom, Searches, Places, Plans, Long};
+ghost use Rattle.place.specs.Promises.{Anchors, Reads, MeasuresRoom, IsRoom, Searches, FindsFirst, Plans, Long};
 use rules::Interval;
 use rules::LIST_BLOCKS;
 use rules::Place;
@@ -122,7 +122,7 @@ fn search(room: &[u16; LIST_BLOCKS], anchors: &[u16; LIST_BLOCKS], k: u32, floor
 // The first open anchor, or none.
 fn first_open(tree: &[u8; TREE_BYTES], k: u32, floor: u32) -> Place
     requires { ⌜ (k ≤ depth) × (floor ≤ 2 ^ k) × IsTree (now tree) ⌝ }
-    ensures { λ r. ⌜ Places k floor (now (tree .entry)) r ⌝ }
+    ensures { λ r. ⌜ FindsFirst k floor (now (tree .entry)) r ⌝ }
 {
     let mut taken = [false; LIST_BLOCKS];
     let mut anchors = [0u16; LIST_BLOCKS];

@@ -11,7 +11,7 @@ use Rattle.rules.specs.declared.Connection.{Connection}
 use Rattle.rules.specs.Ownership.{handles}
 use Rattle.rules.specs.Sound.{Numbers, soundNumbers}
 use Rattle.rules.specs.Bytes.{littleNumber}
-use Rattle.rules.specs.Records.{Piece, begin, nth, piecesOf}
+use Rattle.rules.specs.Records.{Piece, begin, piecesOf}
 use Rattle.rules.specs.Form.{connectionSize}
 use Rattle.rules.specs.Framing.{Framed}
 use Rattle.rules.specs.Fields.{fieldIn, handleIn, connectionIn}
@@ -20,7 +20,7 @@ use Rattle.basics.proofs.BoolLaws.{is-false}
 use Rattle.basics.proofs.BytesLaws.{AllBytes, bytes-take, bytes-drop, number-lt}
 use Rattle.blocks.proofs.SoundLaws.{numbers-sound}
 use Rattle.images.proofs.RisingLaws.{soundFrom, sound-from, pieces-pass, handle-above, handle-falls, numbers-fail}
-use Rattle.images.proofs.PieceLaws.{stands-whole, stands-part}
+use Rattle.images.proofs.PieceLaws.{nth, stands-whole, stands-part}
 use Rattle.images.proofs.FrameLaws.{next-first, first-whole, connection-stands, connection-sized, next-connection}
 use Rattle.restore.specs.Promises.{GoesOn, Reads, records}
 

@@ -11,11 +11,12 @@ use Rattle.rules.specs.declared.Connection.{Connection}
 use Rattle.rules.specs.declared.Schedule.{Schedule}
 use Rattle.rules.specs.declared.Restored.{Restored}
 use Rattle.rules.specs.Ownership.{handles, taken}
-use Rattle.rules.specs.Classes.{runFree, setRun}
+use Rattle.rules.specs.Classes.{runFree}
+use Rattle.blocks.specs.Taking.{setRun}
 use Rattle.rules.specs.TreeBytes.{treeOf}
 use Rattle.rules.specs.Sound.{Numbers, apart}
 use Rattle.rules.specs.Good.{treeFor, fresh, withConnections}
-use Rattle.rules.specs.Records.{Piece, nth}
+use Rattle.rules.specs.Records.{Piece}
 use Rattle.rules.specs.Fields.{handleIn, connectionIn}
 use Rattle.rules.specs.Load.{soundRecords, atHandles}
 use Rattle.images.proofs.RestoreLaws.{numbers-here, handle-here, placed-here, run-apart, run-clash, run-tree, sound-next, clash-first, apart-none}
@@ -24,18 +25,19 @@ use Rattle.run.specs.Promises.{RunFreeSays, SetsRun}
 use Rattle.restore.specs.Promises.{records, mostApart, Restores}
 use Rattle.restore.proofs.Records.{Cursor}
 use Rattle.restore.proofs.Calls.{most-all, most-clash}
+use Rattle.images.proofs.PieceLaws.{nth}
 
 -- The first i records are taken, and no block belongs to two of them.
-pub record Taken (rs : List Piece) (i : ℕ) (cs : List Connection) (tree : List ℕ) : Type 0 where
+pub record FirstTaken (rs : List Piece) (i : ℕ) (cs : List Connection) (tree : List ℕ) : Type 0 where
   pub placed : cs ≡ atHandles (take i rs)
   pub marked : tree ≡ treeOf (taken (atHandles (take i rs)))
   pub separate : apart (atHandles (take i rs)) ≡ true
 
-pub taken-none : (rs : List Piece) (s : Schedule) → s ≡ fresh → Taken rs 0 (s .connections) (s .tree .bytes)
+pub taken-none : (rs : List Piece) (s : Schedule) → s ≡ fresh → FirstTaken rs 0 (s .connections) (s .tree .bytes)
 unfolding atHandles fresh treeFor
 taken-none rs s e = rw e (record { placed = refl; marked = refl; separate = apart-none })
 
-pub taken-tree : (rs : List Piece) (i : ℕ) (cs : List Connection) (tree : List ℕ) → Taken rs i cs tree → IsTree tree
+pub taken-tree : (rs : List Piece) (i : ℕ) (cs : List Connection) (tree : List ℕ) → FirstTaken rs i cs tree → IsTree tree
 taken-tree rs i cs tree w = (taken (atHandles (take i rs)), w .marked)
 
 module _ (rs : List Piece) (i : ℕ) (l : i < length rs) (e : soundRecords rs ≡ true) (c : Connection) (ec : c ≡ connectionIn (nth rs i)) where
@@ -45,7 +47,7 @@ module _ (rs : List Piece) (i : ℕ) (l : i < length rs) (e : soundRecords rs �
   pub turn-handle : handleIn (nth rs i) < handles
   turn-handle = handle-here (take i rs) (nth rs i) (sound-next rs e i l)
 
-  module _ (cs : List Connection) (tree : List ℕ) (w : Taken rs i cs tree) where
+  module _ (cs : List Connection) (tree : List ℕ) (w : FirstTaken rs i cs tree) where
     said : (says : Bool) → RunFreeSays (c .k) (c .anchor) (c .length) tree says
         → runFree (taken (atHandles (take i rs))) (connectionIn (nth rs i) .k) (connectionIn (nth rs i) .anchor) (connectionIn (nth rs i) .length) ≡ says
     said says f =
@@ -60,7 +62,7 @@ module _ (rs : List Piece) (i : ℕ) (l : i < length rs) (e : soundRecords rs �
 
     -- It is free, and is taken.
     pub turn-takes : (after : List ℕ) (h : ℕ) → h ≡ handleIn (nth rs i) → RunFreeSays (c .k) (c .anchor) (c .length) tree true
-        → SetsRun (c .k) (c .anchor) 0 (c .length) true tree after → Taken rs (i + 1) (set cs h c) after
+        → SetsRun (c .k) (c .anchor) 0 (c .length) true tree after → FirstTaken rs (i + 1) (set cs h c) after
     unfolding treeFor
     turn-takes after h eh f s =
         let first = take i rs in
@@ -80,7 +82,7 @@ module _ (rs : List Piece) (i : ℕ) (l : i < length rs) (e : soundRecords rs �
         })
 
 -- ---- the answers
-module _ (bytes : List ℕ) (i : ℕ) (cs : List Connection) (tree : List ℕ) (w : Taken (records bytes) i cs tree)
+module _ (bytes : List ℕ) (i : ℕ) (cs : List Connection) (tree : List ℕ) (w : FirstTaken (records bytes) i cs tree)
     (r : Restored) (p : r .schedule .connections ≡ cs) (t : r .schedule .tree .bytes ≡ tree) (at : Cursor bytes i (r .end)) where
   restores : r .apart ≡ apart (atHandles (records bytes)) → mostApart (records bytes) ≡ i → Restores bytes r
   unfolding withConnections treeFor

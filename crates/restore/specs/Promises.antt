@@ -12,7 +12,7 @@ use Rattle.rules.specs.Form.{connectionSize}
 use Rattle.rules.specs.Fields.{connectionsIn}
 use Rattle.rules.specs.Load.{atHandles}
 
--- The bytes go on, at a cursor, with this record of a connection.
+-- The bytes go on, at a cursor, with this record, which has the size of a connection's.
 pub record GoesOn (bytes : List ℕ) (at : ℕ) (r : Piece) : Type 0 where
   pub later : List ℕ
   pub here : drop at bytes ≡ bytesOf r ++ later

@@ -5,6 +5,7 @@ ghost use Prim.Native.Nat.{_+_, _<_, _≤_, _^_};
 ghost use lib.ListN.{length, take, drop};
 ghost use Rattle.rules.specs.Sound.{soundNumbers};
 ghost use Rattle.rules.specs.Bytes.{littleNumber};
+ghost use Rattle.rules.specs.Records.{headerSize};
 ghost use Rattle.rules.specs.Form.{connectionSize};
 ghost use Rattle.rules.specs.Framing.{Framed};
 ghost use Rattle.rules.specs.Fields.{fieldIn, handleIn, connectionIn};
@@ -13,6 +14,7 @@ ghost use Rattle.restore.specs.Promises.{Reads, records, Restores};
 use rules::BLOCK_MICROS;
 use rules::Connection;
 use rules::HANDLES;
+use rules::HEADER_SIZE;
 use rules::LARGEST_K;
 use rules::Restored;
 use run::factor;
@@ -22,23 +24,23 @@ use run::set_run;
 
 // The cursor after the record at `cursor`: its header, and the payload as long as the header says.
 fn next(bytes: &[u8], cursor: usize) -> usize
-    requires { ⌜ cursor + 4 ≤ length (now bytes) ⌝ }
-    ensures { λ r. ⌜ r ≡ cursor + (4 + littleNumber (take 2 (drop cursor (now (bytes .entry))))) ⌝ }
+    requires { ⌜ cursor + headerSize ≤ length (now bytes) ⌝ }
+    ensures { λ r. ⌜ r ≡ cursor + (headerSize + littleNumber (take 2 (drop cursor (now (bytes .entry))))) ⌝ }
 {
-    cursor + (4 + codec::number(bytes, cursor, 2) as usize)
+    cursor + (HEADER_SIZE + codec::number(bytes, cursor, 2) as usize)
 }
 
 // The number in `width` bytes of the record at a cursor, from its payload's byte `start` on.
 fn field(bytes: &[u8], at: usize, start: usize, width: usize) -> u32
-    requires { ⌜ (width ≤ 4) × (start + width ≤ connectionSize) × (at + (4 + connectionSize) ≤ length (now bytes)) ⌝ }
+    requires { ⌜ (width ≤ 4) × (start + width ≤ connectionSize) × (at + (headerSize + connectionSize) ≤ length (now bytes)) ⌝ }
     ensures { λ r. ⌜ Reads (λ p. fieldIn p start width) (now (bytes .entry)) at r × (r < 256 ^ width) ⌝ }
 {
-    codec::number(bytes, at + 4 + start, width)
+    codec::number(bytes, at + HEADER_SIZE + start, width)
 }
 
 // The handle of the record at a cursor.
 fn handle_at(bytes: &[u8], at: usize) -> u8
-    requires { ⌜ at + (4 + connectionSize) ≤ length (now bytes) ⌝ }
+    requires { ⌜ at + (headerSize + connectionSize) ≤ length (now bytes) ⌝ }
     ensures { λ r. ⌜ Reads handleIn (now (bytes .entry)) at r ⌝ }
 {
     field(bytes, at, 0, 1) as u8
@@ -46,7 +48,7 @@ fn handle_at(bytes: &[u8], at: usize) -> u8
 
 // The connection of the record at a cursor.
 fn connection_at(bytes: &[u8], at: usize) -> Connection
-    requires { ⌜ at + (4 + connectionSize) ≤ length (now bytes) ⌝ }
+    requires { ⌜ at + (headerSize + connectionSize) ≤ length (now bytes) ⌝ }
     ensures { λ r. ⌜ Reads connectionIn (now (bytes .entry)) at r ⌝ }
 {
     Connection {

@@ -42,10 +42,6 @@ unfolding fits
 allFit [] = true
 allFit (n ∷ ns) = fits n && allFit ns
 
--- No command has more numbers.
-abbrev pub mostNumbers : ℕ
-mostNumbers = 4
-
 -- ---- and read
 -- A form: a word, with so many numbers.
 abbrev pub isForm : List ℕ → List ℕ → List ℕ → ℕ → Bool

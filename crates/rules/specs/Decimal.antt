@@ -1,11 +1,9 @@
 -- Numbers in a text: "decimal, no leading zero save `0`, at most 2^32 − 1".
 use Prim.Native.Nat.{ℕ, zero, suc, _+_, _-_, _*_, _/_, _%_, _^_}
-use mathlib.Core.Bool.{Bool, _&&_, cond}
+use mathlib.Core.Bool.{Bool, cond}
 use mathlib.Core.List.{List, [], _∷_, _++_}
-use mathlib.Core.Option.{Option, none, some}
 use lib.Dec.{ltb}
 use Rattle.rules.specs.Text.{byte}
-use Rattle.rules.specs.Bytes.{same}
 
 -- Below ten a number has one digit; else those of n / 10, and then its last. It is divided less than `most` times.
 unfoldable pub decimalWithin : ℕ → ℕ → List ℕ
@@ -31,10 +29,3 @@ value ds = valueFrom 0 ds
 -- The numbers that a text and a call can have.
 unfoldable pub fits : ℕ → Bool
 fits n = ltb n (2 ^ 32)
-
--- Bytes are read as a number exactly if they are its digits.
-unfoldable pub numberIn : List ℕ → Option ℕ
-unfolding decimal value same fits
-numberIn bytes =
-    let n = value bytes in
-    cond (same (decimal n) bytes && fits n) (some n) none

@@ -26,8 +26,8 @@ countKind = 1
 abbrev pub countSize : ℕ
 countSize = 2
 
-abbrev pub isCount : Head → Bool
-isCount = headed countKind countSize
+abbrev pub countHead : Head → Bool
+countHead = headed countKind countSize
 
 -- "kind 2, 14 bytes each"
 abbrev pub connectionKind : ℕ
@@ -36,8 +36,8 @@ connectionKind = 2
 abbrev pub connectionSize : ℕ
 connectionSize = 14
 
-abbrev pub isConnection : Head → Bool
-isConnection = headed connectionKind connectionSize
+abbrev pub connectionHead : Head → Bool
+connectionHead = headed connectionKind connectionSize
 
 -- "one of kind 3, the 128 tree bytes"
 abbrev pub treeKind : ℕ
@@ -46,12 +46,12 @@ treeKind = 3
 abbrev pub treeSize : ℕ
 treeSize = treeBytes
 
-abbrev pub isTree : Head → Bool
-isTree = headed treeKind treeSize
+abbrev pub treeHead : Head → Bool
+treeHead = headed treeKind treeSize
 
 -- What is asked for in each place: "In order: one of kind 1 ..; n of kind 2 ..; one of kind 3 .. Nothing follows."
 abbrev pub form : ℕ → List (Head → Bool)
-form n = isCount ∷ (replicate n isConnection ++ (isTree ∷ []))
+form n = countHead ∷ (replicate n connectionHead ++ (treeHead ∷ []))
 
 -- Each record is what is asked for in its place, and none is missing or left over.
 unfoldable pub formed : List (Head → Bool) → List Head → Bool

@@ -3,7 +3,6 @@ use Prim.Native.Nat.{ℕ, _+_, _-_, _/_, min, max}
 use mathlib.Core.Bool.{Bool, cond}
 use lib.Dec.{eqb, ltb}
 use lib.IntN.{ℤ, pos, negsuc, _+ℤ_, _-ℤ_, natAbs}
-use Rattle.rules.specs.declared.Meter.{Meter}
 use Rattle.rules.specs.Time.{blockMicros, guardMicros}
 use Rattle.rules.specs.Answers.{Answer, kept, grown, shrunk, tight}
 
@@ -28,12 +27,6 @@ target needed floor ceiling = min (max needed floor) ceiling
 -- The target once a sample has moved the estimate.
 abbrev pub aimed : ℕ → ℕ → ℕ → ℕ → ℕ
 aimed estimate sample floor ceiling = target (need (moved estimate sample)) floor ceiling
-
--- The meter moved by a sample: the new estimate, with the length that it aims at.
-unfoldable pub movedMeter : Meter → ℕ → ℕ → ℕ → Meter
-unfolding moved
-movedMeter m sample floor ceiling =
-    record { estimate = moved (m .estimate) sample; length = aimed (m .estimate) sample floor ceiling }
 
 -- "Target equal to L: kept. Below L: shrunk to the target, the last blocks given back. Above L (it is then L + 1): grown,
 -- if the class of (A + L) mod F is free, otherwise tight with L unchanged."

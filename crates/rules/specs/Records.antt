@@ -1,13 +1,16 @@
 -- Records one after the other: how they are written, where each begins, and how they are read.
 use Prim.Native.Nat.{ℕ, zero, suc, _+_}
 use mathlib.Core.List.{List, [], _∷_, _++_}
-use lib.ListN.{length, getD, take, drop}
+use lib.ListN.{length, take, drop}
 use Rattle.rules.specs.Bytes.{little, littleNumber}
 
 -- "Records, all numbers little-endian: length of the payload (2 bytes), kind (2 bytes), payload."
 pub record Piece : Type 0 where
   pub kind : ℕ
   pub payload : List ℕ
+
+abbrev pub headerSize : ℕ
+headerSize = 4
 
 unfoldable pub bytesOf : Piece → List ℕ
 unfolding little
@@ -22,10 +25,6 @@ joined (r ∷ rs) = bytesOf r ++ joined rs
 abbrev pub begin : List Piece → ℕ → ℕ
 begin rs i = length (joined (take i rs))
 
--- Record i, from 0 on.
-abbrev pub nth : List Piece → ℕ → Piece
-nth rs i = getD rs i (record { kind = 0; payload = [] })
-
 -- The record that bytes begin with, by its length and kind, and the records after it; n bounds how many.
 unfoldable pub piecesIn : ℕ → List ℕ → List Piece
 unfolding littleNumber
@@ -34,8 +33,8 @@ piecesIn (suc n) [] = []
 piecesIn (suc n) (b ∷ bs) =
     let bytes = b ∷ bs in
     let size = littleNumber (take 2 bytes) in
-    record { kind = littleNumber (take 2 (drop 2 bytes)); payload = take size (drop 4 bytes) }
-    ∷ piecesIn n (drop (4 + size) bytes)
+    record { kind = littleNumber (take 2 (drop 2 bytes)); payload = take size (drop headerSize bytes) }
+    ∷ piecesIn n (drop (headerSize + size) bytes)
 
 -- The records of the bytes.
 unfoldable pub piecesOf : List ℕ → List Piece

@@ -20,11 +20,6 @@ parted separator (b ∷ bs) =
     let later = parted separator bs in
     cond (eqb b separator) (record { pieces = [] ∷ later .pieces; tail = later .tail }) (longer b (later .pieces) (later .tail))
 
--- Each piece with its separator, and then the tail.
-unfoldable pub rejoined : ℕ → List (List ℕ) → List ℕ → List ℕ
-rejoined separator [] tail = tail
-rejoined separator (p ∷ ps) tail = p ++ separator ∷ rejoined separator ps tail
-
 -- The bytes before the first separator, or all.
 unfoldable pub before : ℕ → List ℕ → List ℕ
 before separator [] = []

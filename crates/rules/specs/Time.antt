@@ -16,9 +16,6 @@ blockMicros = blockSlots * slotMicros
 abbrev pub listBlocks : ℕ
 listBlocks = 512
 
-abbrev pub listMicros : ℕ
-listMicros = listBlocks * blockMicros
-
 -- "the 2.5 ms guard"
 abbrev pub guardMicros : ℕ
 guardMicros = 2500

@@ -1,10 +1,9 @@
 -- The bytes of the tree, as a function of which blocks are taken.
-use Prim.Native.Nat.{ℕ, zero, suc, _+_, _*_, _/_, _%_, _^_, _<_}
+use Prim.Native.Nat.{ℕ, zero, suc, _+_, _*_, _/_, _%_, _^_}
 use mathlib.Core.Bool.{Bool, cond}
 use mathlib.Core.List.{List}
-use mathlib.Core.Path.{_≡_}
 use lib.Dec.{eqb}
-use lib.ListN.{length, getD}
+use lib.ListN.{getD}
 use Rattle.rules.specs.Below.{tabulate}
 use Rattle.rules.specs.Nodes.{nodeBit}
 
@@ -32,8 +31,3 @@ bitOf x j = eqb (x / 2 ^ j % 2) 1
 -- The bit of node n in the bytes of a tree.
 abbrev pub bitAt : List ℕ → ℕ → Bool
 bitAt bytes n = bitOf (getD bytes (n / 8) 0) (n % 8)
-
--- So many bytes.
-pub record Sized (bytes : List ℕ) : Type 0 where
-  pub long : length bytes ≡ treeBytes
-  pub small : (i : ℕ) → getD bytes i 0 < 256

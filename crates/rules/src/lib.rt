@@ -18,7 +18,7 @@ pub const LIST_BLOCKS: usize = 512;
 pub const LAST_HANDLE: u32 = 63;
 
 /// How many handles there are.
-pub const HANDLES: usize = 64;
+pub const HANDLES: usize = LAST_HANDLE as usize + 1;
 
 /// The largest k of a factor 2^k.
 pub const LARGEST_K: u8 = 9;
@@ -28,6 +28,9 @@ pub const DEPTH: u32 = 9;
 
 /// The tree in bytes.
 pub const TREE_BYTES: usize = 128;
+
+/// The header of a record in bytes: its length and its kind.
+pub const HEADER_SIZE: usize = 4;
 
 /// The record of the count: its kind, and the bytes of its payload.
 pub const COUNT_KIND: u32 = 1;
@@ -42,7 +45,7 @@ pub const CONNECTION_SIZE: u32 = 14;
 /// The record of the tree.
 pub const TREE_KIND: u32 = 3;
 
-pub const TREE_SIZE: u32 = 128;
+pub const TREE_SIZE: u32 = TREE_BYTES as u32;
 
 /// The most bytes of the line of an answer.
 pub const LONGEST_ANSWER: usize = 28;
@@ -51,7 +54,7 @@ pub const LONGEST_ANSWER: usize = 28;
 pub const MOST_INPUT: usize = 4096;
 
 /// The most bytes that it prints.
-pub const MOST_OUTPUT: usize = 16384;
+pub const MOST_OUTPUT: usize = 4 * MOST_INPUT;
 
 // ---- the schedule
 

@@ -5,11 +5,12 @@ use native.Mathlib.Nat.{mod-eq-of-lt, mod-lt, mod-add-mod, one-mul}
 use native.Mathlib.Omega.{arith}
 use lib.Bits.{bitAnd, and-mask}
 use lib.Pow.{pow-pos, pow-lt, pow-mono}
+use Rattle.rules.specs.Classes.{depth}
 use Rattle.rules.specs.Time.{minusMod}
 use Rattle.run.specs.Promises.{Factor, MinusMod}
 
 -- `1u32 << k`
-pub shifted : (k : ℕ) → k ≤ 9 → Factor k (1 * 2 ^ k % 4294967296)
+pub shifted : (k : ℕ) → k ≤ depth → Factor k (1 * 2 ^ k % 4294967296)
 shifted k h =
     let l : k < 32 = omega arith in
     let e : 1 * 2 ^ k % 4294967296 ≡ 2 ^ k = rw one-mul (mod-eq-of-lt (pow-lt l)) in

@@ -3,7 +3,7 @@ use mathlib.Core.Path.{_≡_, _∙_, ap}
 use mathlib.Core.Bool.{Bool, true, false}
 use mathlib.Core.List.{List}
 use Prim.Native.Nat.{ℕ, _+_, _%_, _^_, _<_, _≤_}
-use Rattle.rules.specs.Classes.{setRun, withClass, withoutClass}
+use Rattle.blocks.specs.Taking.{setRun, withClass, withoutClass}
 use Rattle.rules.specs.TreeBytes.{treeOf}
 use Rattle.blocks.proofs.RunLaws.{tree-run-taken, tree-run-given}
 use Rattle.tree.specs.Promises.{IsTree, Takes, GivesBack}

@@ -21,7 +21,8 @@ use Rattle.rules.specs.Answers.{Answer, Outcome, ok, dropped, refusing, ofAdmit
 use Rattle.rules.specs.Handles.{connection, isLive}
 use Rattle.rules.specs.Admit.{newConnection, admit}
 use Rattle.rules.specs.Drop.{dropDone, dropHandle}
-use Rattle.rules.specs.Meter.{moved, need, movedMeter, change, newLength}
+use Rattle.rules.specs.Meter.{moved, need, change, newLength}
+use Rattle.meter.specs.Moved.{movedMeter}
 use Rattle.rules.specs.Report.{roomToGrow, metered, aim, reportAnswer, reportLength, reportDone, report}
 use Rattle.rules.specs.Steps.{places, refuses}
 use Rattle.place.specs.Steps.{ofPlan, planStep}
@@ -110,18 +111,18 @@ module _ (s : Schedule) (good : Good s) (h sample : ℕ) where
         ∙ longer-tree (s .connections) h _ _ (connection s h .length) (connection s h .length) (inside s good h b) (live-runs (connection s h) q) (metered (connection s h) (connection s h .length) e) (live-runs (metered (connection s h) (connection s h .length) e) q) (omega arith)
 
     -- The answer has the new length, and the tree that follows it is that of the connection with this length.
-    settled : (r : Reporting) (aim e : ℕ) (room : Bool) (bytes : List ℕ) → ofReporting r ≡ change (connection s h .length) aim room
+    settled : (r : Reporting) (goal e : ℕ) (room : Bool) (bytes : List ℕ) → ofReporting r ≡ change (connection s h .length) goal room
         → bytes ≡ treeOf (takenAfter (connection s h) r (taken (s .connections)))
-        → (lengthIn r ≡ newLength (connection s h .length) aim room)
-        × (bytes ≡ treeFor (set (s .connections) h (metered (connection s h) (newLength (connection s h .length) aim room) e)))
-    settled r aim e room bytes =
+        → (lengthIn r ≡ newLength (connection s h .length) goal room)
+        × (bytes ≡ treeFor (set (s .connections) h (metered (connection s h) (newLength (connection s h .length) goal room) e)))
+    settled r goal e room bytes =
         let c = connection s h in
         let tree : Reporting → List ℕ = λ x. treeOf (takenAfter c x (taken (s .connections))) in
-        change-cases (c .length) aim room (λ a M. ofReporting r ≡ a → bytes ≡ tree r → (lengthIn r ≡ M) × (bytes ≡ treeFor (set (s .connections) h (metered c M e))))
+        change-cases (c .length) goal room (λ a M. ofReporting r ≡ a → bytes ≡ tree r → (lengthIn r ≡ M) × (bytes ≡ treeFor (set (s .connections) h (metered c M e))))
         (λ l a t. let w = reporting-injective r (Kept (c .length)) a in (ap lengthIn w, t ∙ ap tree w ∙ unmoved e))
         (λ l a t.
-        let w = reporting-injective r (Shrunk aim) a in
-        (ap lengthIn w, t ∙ ap tree w ∙ shorter-tree (s .connections) h _ _ (c .length) aim (inside s good h b) (live-runs c q) (metered c aim e) (live-runs (metered c aim e) q) (good-sound s good) (omega arith)))
+        let w = reporting-injective r (Shrunk goal) a in
+        (ap lengthIn w, t ∙ ap tree w ∙ shorter-tree (s .connections) h _ _ (c .length) goal (inside s good h b) (live-runs c q) (metered c goal e) (live-runs (metered c goal e) q) (good-sound s good) (omega arith)))
         (λ l o a t.
         let w = reporting-injective r (Grown (c .length + 1)) a in
         (ap lengthIn w, t ∙ ap tree w ∙ longer-tree (s .connections) h _ _ (c .length) (c .length + 1) (inside s good h b) (live-runs c q) (metered c (c .length + 1) e) (live-runs (metered c (c .length + 1) e) q) (omega arith)))

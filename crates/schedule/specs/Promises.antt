@@ -11,7 +11,7 @@ use Rattle.rules.specs.declared.Dropped.{Dropped}
 use Rattle.rules.specs.declared.Reported.{Reported}
 use Rattle.rules.specs.declared.Reporting.{Reporting}
 use Rattle.rules.specs.declared.Reporting.the-variants.{Kept, Grown, Shrunk, Tight, Refused as ReportingRefused}
-use Rattle.rules.specs.Classes.{setRun}
+use Rattle.blocks.specs.Taking.{setRun}
 use Rattle.rules.specs.TreeBytes.{treeOf}
 use Rattle.rules.specs.Answers.{ofAdmitted, ofDropped, ofReporting, ofReported}
 use Rattle.rules.specs.Admit.{admit}

@@ -1,10 +1,14 @@
 //! What the test programs print with.
 
 use libc::STDOUT_FILENO;
+use rules::LIST_BLOCKS;
 use rules::LONGEST_ANSWER;
 use rules::Refusal;
 use rules::TREE_BYTES;
 use text::put_refused;
+
+// Node 0, which is none, and the nodes of the tree.
+const NODES: usize = 2 * LIST_BLOCKS;
 
 /// Words as they are.
 pub fn word(w: &[u8]) {
@@ -33,7 +37,7 @@ pub fn refused(r: Refusal) {
 /// How many bits of a tree are set.
 pub fn bits(tree: &[u8; TREE_BYTES]) -> u64 {
     let mut set: u64 = 0;
-    for n in 0..1024 {
+    for n in 0..NODES {
         if tree::is_set(tree, n) {
             set += 1;
         }

@@ -8,7 +8,8 @@ use native.Mathlib.Nat.{eq-or-lt-of-le}
 use native.Mathlib.Numerals.{add-one}
 use lib.ListN.{length, getD, take}
 use lib.Seq.{take-suc, take-all}
-use Rattle.rules.specs.Decimal.{value, numberIn}
+use Rattle.rules.specs.Decimal.{value}
+use Rattle.texts.specs.Row.{numberIn}
 use Rattle.texts.proofs.DecimalLaws.{Digit, value-snoc, number-right}
 use mathlib.Core.Option.{some}
 

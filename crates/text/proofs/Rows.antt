@@ -7,7 +7,7 @@ use native.Mathlib.Numerals.{add-one}
 use native.Mathlib.Omega.{arith}
 use lib.ListN.{length, getD, take, drop, set, length-drop, length-set, length-append, drop-of-length-le}
 use lib.Seq.{drop-cons, drop-drop, drop-set-lt, length-take-le, take-suc-set}
-use Rattle.rules.specs.Decimal.{numberIn}
+use Rattle.texts.specs.Row.{numberIn}
 use Rattle.rules.specs.Split.{before}
 use Rattle.texts.specs.Row.{IsRow}
 use Rattle.texts.proofs.SplitLaws.{before-take, before-le}

@@ -14,7 +14,7 @@ pub record HasRow (bytes entry exit : List ℕ) (n : ℕ) : Type 0 where
   pub row : IsRow bytes (take n exit)
   pub rest : drop n exit ≡ drop n entry
 
--- They are; or they are no row of so many numbers at most as the slice takes.
+-- They are; or they are no row of so many numbers at most as the slice takes, and of what it then holds nothing is said.
 abbrev pub ReadsRow : List ℕ → List ℕ → List ℕ → Row → Type 0
 ReadsRow bytes entry exit (Count n) = HasRow bytes entry exit n
 ReadsRow bytes entry exit Wrong = (ns : List ℕ) → length ns ≤ length entry → IsRow bytes ns → ⊥

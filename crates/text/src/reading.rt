@@ -3,7 +3,7 @@ ghost use mathlib.Core.Path.{_≡_};
 ghost use Prim.Native.Nat.{_+_, _-_, _≤_};
 ghost use lib.ListN.{length, take, drop};
 ghost use Rattle.rules.specs.Bytes.{same};
-ghost use Rattle.rules.specs.Decimal.{numberIn};
+ghost use Rattle.texts.specs.Row.{numberIn};
 ghost use Rattle.rules.specs.Split.{before};
 ghost use Rattle.texts.specs.Row.{ofNumber};
 ghost use Rattle.text.specs.Promises.{ReadsRow};

@@ -17,7 +17,8 @@ use Rattle.rules.specs.Bytes.{same}
 use Rattle.rules.specs.Decimal.{decimal}
 use Rattle.rules.specs.Split.{parted, before}
 use Rattle.rules.specs.Words.{spaced}
-use Rattle.rules.specs.Commands.{wordOf, numbersOf, lineOf, allFit, mostNumbers, isForm, named, fieldsNamed, guess, confirmed, says}
+use Rattle.rules.specs.Commands.{wordOf, numbersOf, lineOf, allFit, isForm, named, fieldsNamed, guess, confirmed, says}
+use Rattle.texts.specs.Row.{mostNumbers}
 use Rattle.texts.specs.Row.{IsRow}
 use Rattle.basics.proofs.BoolLaws.{both}
 use Rattle.basics.proofs.BytesLaws.{same-exactly}

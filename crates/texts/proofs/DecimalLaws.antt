@@ -13,7 +13,8 @@ use lib.Seq.{take-suc, take-length, getD-at}
 use borrow.Author.Tests.{lt-ltb, le-ltb, ltb-true}
 use Rattle.rules.specs.Text.{byte}
 use Rattle.rules.specs.Bytes.{same}
-use Rattle.rules.specs.Decimal.{decimalWithin, decimal, valueFrom, value, fits, numberIn}
+use Rattle.rules.specs.Decimal.{decimalWithin, decimal, valueFrom, value, fits}
+use Rattle.texts.specs.Row.{numberIn}
 use Rattle.basics.proofs.BoolLaws.{both}
 use Rattle.basics.proofs.BytesLaws.{same-exactly}
 

@@ -10,7 +10,8 @@ use lib.ListN.{length, getD, drop, take-append-drop}
 use lib.Seq.{drop-append-seam}
 use borrow.Author.Tests.{ltb-true, lt-ltb}
 use Rattle.rules.specs.Text.{byte}
-use Rattle.rules.specs.Decimal.{decimal, value, fits, numberIn}
+use Rattle.rules.specs.Decimal.{decimal, value, fits}
+use Rattle.texts.specs.Row.{numberIn}
 use Rattle.rules.specs.Split.{parted, before}
 use Rattle.rules.specs.Words.{spaced}
 use Rattle.rules.specs.Commands.{allFit}
@@ -63,9 +64,9 @@ unfolding spaced allFit fits
 row-longer bs n ns e later =
     let digits = before (byte " ") bs in
     let first = number-only digits n e in
-    let parted : bs ≡ digits ++ drop (length digits) bs = sym (rw (← before-take (byte " ") bs) at (take-append-drop (length digits) bs)) in
+    let whole : bs ≡ digits ++ drop (length digits) bs = sym (rw (← before-take (byte " ") bs) at (take-append-drop (length digits) bs)) in
     record {
-      is = ap {B = List ℕ} (λ l. byte " " ∷ l) (parted ∙ ap₂ {C = List ℕ} (λ x y. x ++ y) (first .0) (later .is));
+      is = ap {B = List ℕ} (λ l. byte " " ∷ l) (whole ∙ ap₂ {C = List ℕ} (λ x y. x ++ y) (first .0) (later .is));
       fit = ap₂ _&&_ (lt-ltb n (2 ^ 32) (first .1)) (later .fit);
     }
 

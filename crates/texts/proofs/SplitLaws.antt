@@ -8,7 +8,12 @@ use native.Mathlib.Omega.{arith}
 use lib.ListN.{length, getD, take, drop, length-take, drop-of-length-le}
 use lib.Seq.{take-all, drop-cons}
 use borrow.Author.Tests.{eq-eqb, ne-eqb}
-use Rattle.rules.specs.Split.{Parts, longer, parted, rejoined, before}
+use Rattle.rules.specs.Split.{Parts, longer, parted, before}
+
+-- Each piece with its separator, and then the tail.
+unfoldable pub rejoined : ℕ → List (List ℕ) → List ℕ → List ℕ
+rejoined separator [] tail = tail
+rejoined separator (p ∷ ps) tail = p ++ separator ∷ rejoined separator ps tail
 
 -- No byte is the separator.
 abbrev pub Without : ℕ → List ℕ → Type 0

@@ -13,9 +13,11 @@ use lib.Dec.{eqb}
 use lib.ListN.{length, getD, set, length-set}
 use lib.Seq.{getD-set-same, getD-set-other}
 use borrow.Author.Tests.{eq-eqb, ne-eqb}
+use Rattle.rules.specs.Classes.{depth}
 use Rattle.rules.specs.Below.{every}
 use Rattle.rules.specs.Mirror.{mirrored}
-use Rattle.rules.specs.TreeBytes.{bitOf, bitAt, Sized}
+use Rattle.rules.specs.TreeBytes.{bitOf, bitAt}
+use Rattle.blocks.specs.Children.{Sized}
 use Rattle.tree.specs.Promises.{Writes}
 use Rattle.basics.proofs.BelowLaws.{every-at}
 use Rattle.blocks.proofs.MirrorLaws.{mirror-lt}
@@ -158,21 +160,21 @@ module _ (t : List ℕ) (n : ℕ) (sized : Sized t) (hn : n < 1024) where
 
 -- ---- the node of a class
 -- the bit of depth k above what is mirrored
-pub node-number : (k r : ℕ) → k ≤ 9 → bitOr (1 * 2 ^ k % 4294967296) (mirrored k r) ≡ 2 ^ k + mirrored k r
+pub node-number : (k r : ℕ) → k ≤ depth → bitOr (1 * 2 ^ k % 4294967296) (mirrored k r) ≡ 2 ^ k + mirrored k r
 node-number k r h =
     let k32 : k < 32 = omega arith in
     let e : 1 * 2 ^ k % 4294967296 ≡ 1 * 2 ^ k = mod-eq-of-lt (rw one-mul (pow-lt k32)) in
     rw e (or-shifted 1 k (mirrored k r) (mirror-lt k r) ∙ omega arith)
 
 -- the node of a class lies in the tree, and so does all that is below it
-pub node-lt : (k r : ℕ) → k ≤ 9 → 2 ^ k + mirrored k r < 1024
+pub node-lt : (k r : ℕ) → k ≤ depth → 2 ^ k + mirrored k r < 1024
 node-lt k r h =
     let g : 2 ^ k ≤ 512 = pow-mono h in
     omega (arith, mirror-lt k r)
 
-pub node-room : (k r : ℕ) → k ≤ 9 → (2 ^ k + mirrored k r + 1) * 2 ^ (9 - k) ≤ 1024
+pub node-room : (k r : ℕ) → k ≤ depth → (2 ^ k + mirrored k r + 1) * 2 ^ (depth - k) ≤ 1024
 node-room k r h =
-    let s : k + (9 - k) ≡ 9 = omega arith in
-    let e : 2 ^ k * 2 ^ (9 - k) ≡ 512 = sym (pow-add 2 k (9 - k)) ∙ ap (λ (x : ℕ). 2 ^ x) s in
+    let s : k + (depth - k) ≡ 9 = omega arith in
+    let e : 2 ^ k * 2 ^ (depth - k) ≡ 512 = sym (pow-add 2 k (depth - k)) ∙ ap (λ (x : ℕ). 2 ^ x) s in
     let g : 2 ^ k + mirrored k r + 1 ≤ 2 ^ k + 2 ^ k = omega (arith, mirror-lt k r) in
-    omega (arith, e, mul-le-mul-right (2 ^ (9 - k)) g)
+    omega (arith, e, mul-le-mul-right (2 ^ (depth - k)) g)

@@ -9,7 +9,8 @@ use native.Mathlib.Decide.{ℕ-discrete}
 use native.Mathlib.Omega.{arith}
 use lib.Pow.{pow-pos, pow-add}
 use borrow.Author.Tests.{eqb-false, eq-eqb, ne-eqb}
-use Rattle.rules.specs.Classes.{depth, inClass, withClass, withoutClass}
+use Rattle.rules.specs.Classes.{depth, inClass}
+use Rattle.blocks.specs.Taking.{withClass, withoutClass}
 use Rattle.rules.specs.Mirror.{mirrored}
 use Rattle.rules.specs.TreeBytes.{treeOf, bitAt}
 use Rattle.blocks.specs.Children.{OrOfChildren}
@@ -21,9 +22,9 @@ use Rattle.tree.proofs.UnderLaws.{under-lt, not-above, above-less, chil
 
 -- Only nodes above n may have another bit, and what is not above n is not above v.
 pub record Keeps (n v : ℕ) (before after : List ℕ) : Type 0 where
-  pub others : (m : ℕ) → 0 < m → under 9 m (n / 2) ≡ false → bitAt after m ≡ bitAt before m
+  pub others : (m : ℕ) → 0 < m → under depth m (n / 2) ≡ false → bitAt after m ≡ bitAt before m
   pub zeroth : bitAt after 0 ≡ bitAt before 0
-  pub above : (m : ℕ) → 0 < m → under 9 m (n / 2) ≡ false → under 9 m (v / 2) ≡ false
+  pub above : (m : ℕ) → 0 < m → under depth m (n / 2) ≡ false → under depth m (v / 2) ≡ false
 
 -- ---- the node over v joined
 module _ (v : ℕ) {t t′ : List ℕ} {changed : Bool} (hv : 1 < v) (j : Joins (v / 2) t t′ changed) where
@@ -64,21 +65,21 @@ cond-joined true v a x y e = sym (or-self v)
 cond-joined false v a x y e = e
 
 -- where every inner node was joined, only the one over n may be missing now
-pub below-missing : (k n : ℕ) (v : Bool) (t c : List ℕ) → k ≤ 9 → 2 ^ k ≤ n → WritesBelow (9 - k) n v t c
+pub below-missing : (k n : ℕ) (v : Bool) (t c : List ℕ) → k ≤ depth → 2 ^ k ≤ n → WritesBelow (depth - k) n v t c
     → ((a : ℕ) → 0 < a → a < 512 → OrOfChildren t a) → MissingOver n c
 below-missing k n v t c hk hn w j a ha hl hu =
-    let s : k + (9 - k) ≡ 9 = omega arith in
-    let e : 2 ^ k * 2 ^ (9 - k) ≡ 512 = sym (pow-add 2 k (9 - k)) ∙ ap (λ (x : ℕ). 2 ^ x) s in
-    let g : a < n * 2 ^ (9 - k) = omega (arith, e, mul-le-mul-right (2 ^ (9 - k)) hn) in
+    let s : k + (depth - k) ≡ 9 = omega arith in
+    let e : 2 ^ k * 2 ^ (depth - k) ≡ 512 = sym (pow-add 2 k (depth - k)) ∙ ap (λ (x : ℕ). 2 ^ x) s in
+    let g : a < n * 2 ^ (depth - k) = omega (arith, e, mul-le-mul-right (2 ^ (depth - k)) hn) in
     let q : a ≢ n / 2 = eqb-false a (n / 2) hu in
-    let u₀ : under (9 - k) n (2 * a) ≡ under (9 - k) n a = child-under (9 - k) n a (2 * a) (omega arith) (omega arith) g in
-    let u₁ : under (9 - k) n (2 * a + 1) ≡ under (9 - k) n a = child-under (9 - k) n a (2 * a + 1) (omega arith) (omega arith) g in
+    let u₀ : under (depth - k) n (2 * a) ≡ under (depth - k) n a = child-under (depth - k) n a (2 * a) (omega arith) (omega arith) g in
+    let u₁ : under (depth - k) n (2 * a + 1) ≡ under (depth - k) n a = child-under (depth - k) n a (2 * a + 1) (omega arith) (omega arith) g in
     rw (w .bits a, w .bits (2 * a), w .bits (2 * a + 1), u₀, u₁)
-    (cond-joined (under (9 - k) n a) v (bitAt t a) (bitAt t (2 * a)) (bitAt t (2 * a + 1)) (j a ha hl))
+    (cond-joined (under (depth - k) n a) v (bitAt t a) (bitAt t (2 * a)) (bitAt t (2 * a + 1)) (j a ha hl))
 
 -- ---- a whole class written
-pub class-written : (k r n : ℕ) (v : Bool) (t c t′ : List ℕ) → k ≤ 9 → r < 2 ^ k → n ≡ 2 ^ k + mirrored k r
-    → WritesBelow (9 - k) n v t c → JoinsAbove n c t′ → WritesClass k r v t t′
+pub class-written : (k r n : ℕ) (v : Bool) (t c t′ : List ℕ) → k ≤ depth → r < 2 ^ k → n ≡ 2 ^ k + mirrored k r
+    → WritesBelow (depth - k) n v t c → JoinsAbove n c t′ → WritesClass k r v t t′
 class-written k r n v t c t′ hk hr e w j f tree =
     tree-of-leaves (λ b. cond (inClass k r b) v (f b)) t′ (j .sized) root (j .joined) leaves
   where
@@ -89,11 +90,11 @@ class-written k r n v t c t′ hk hr e w j f tree =
     inside = rw e (node-lt k r hk)
 
     root : bitAt t′ 0 ≡ false
-    root = j .zeroth ∙ w .bits 0 ∙ rw (under-lt (9 - k) n 0 positive, tree) (tree-root f)
+    root = j .zeroth ∙ w .bits 0 ∙ rw (under-lt (depth - k) n 0 positive, tree) (tree-root f)
 
     leaves : (p : ℕ) → p < 512 → bitAt t′ (512 + p) ≡ cond (inClass k r (mirrored depth p)) v (f (mirrored depth p))
     leaves p hp =
-        let u : under (9 - k) n (512 + p) ≡ inClass k r (mirrored depth p) = rw e (under-leaf k r p hk hr hp) in
+        let u : under (depth - k) n (512 + p) ≡ inClass k r (mirrored depth p) = rw e (under-leaf k r p hk hr hp) in
         j .others (512 + p) (omega arith) (under-lt 9 (512 + p) (n / 2) (omega (arith, inside)))
         ∙ w .bits (512 + p)
         ∙ rw (u, tree, tree-leaves f p hp)

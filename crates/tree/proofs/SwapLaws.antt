@@ -6,6 +6,7 @@ use native.Mathlib.Omega.{arith}
 use lib.Bits.{bitOr, bitAnd, and-le-r, and-mask, and-block, or-block, or-lt, or-shifted}
 use lib.Dec.{lit<}
 use lib.Pow.{pow-pos, pow-mono, split, high, low, mod-mod-pow, ones-lt, shl-lt, shr-shr}
+use Rattle.rules.specs.Classes.{depth}
 use Rattle.rules.specs.Mirror.{mirrored}
 use Rattle.blocks.proofs.MirrorLaws.{mirror-lt, mirror-split}
 use Rattle.tree.specs.Promises.{Mirrored}
@@ -81,7 +82,7 @@ module _ (m : ℕ) where
       rw e (turned-exchanged n x y t)
 
 -- ---- what `mirror` returns: 16 bits mirrored, of which the highest k come down
-pub mirror-swaps : (k p : ℕ) → k ≤ 9 → Mirrored k p (swap 8 0x00ff (swap 4 0x0f0f (swap 2 0x3333 (swap 1 0x5555 p))) / 2 ^ (16 - k))
+pub mirror-swaps : (k p : ℕ) → k ≤ depth → Mirrored k p (swap 8 0x00ff (swap 4 0x0f0f (swap 2 0x3333 (swap 1 0x5555 p))) / 2 ^ (16 - k))
 unfolding mask Turned
 mirror-swaps k p h =
     let ones : ℕ = swap 1 0x5555 p in

@@ -3,7 +3,8 @@ use mathlib.Core.Path.{_≡_, refl, sym, _∙_}
 use mathlib.Core.Bool.{Bool, true}
 use mathlib.Core.List.{List}
 use Prim.Native.Nat.{ℕ, _^_, _<_, _≤_}
-use Rattle.rules.specs.Classes.{depth, free, withClass, withoutClass}
+use Rattle.rules.specs.Classes.{depth, free}
+use Rattle.blocks.specs.Taking.{withClass, withoutClass}
 use Rattle.rules.specs.TreeBytes.{treeOf}
 use Rattle.blocks.proofs.TreeLaws.{tree-restored}
 use Rattle.tree.specs.Promises.{IsTree, ByTree, Takes, GivesBack}

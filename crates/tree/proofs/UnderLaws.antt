@@ -91,10 +91,10 @@ unfolding under
 first-false m v l e q = false≢true (sym e ∙ rw (eq-eqb v m (sym q)))
 
 -- what is not at v or above it is not v, and not above it
-pub not-above : (m v : ℕ) → under 9 m v ≡ false → m ≢ v
+pub not-above : (m v : ℕ) → under depth m v ≡ false → m ≢ v
 not-above m v e = first-false m v 8 e
 
-pub above-less : (m v : ℕ) → 0 < m → v < 1024 → under 9 m v ≡ false → under 9 m (v / 2) ≡ false
+pub above-less : (m v : ℕ) → 0 < m → v < 1024 → under depth m v ≡ false → under depth m (v / 2) ≡ false
 unfolding under
 above-less m v hm hv e =
     let g : v / 2 < m * 2 ^ 9 = omega arith in
@@ -128,14 +128,14 @@ under-node (suc d) (suc l) k P p hl hP hp =
     (under-node d l k P (p / 2) (omega arith) hP (omega arith) ∙ ap (λ (x : ℕ). eqb x P) r)
 
 -- The leaves under a class's node are those of its blocks.
-pub under-leaf : (k r p : ℕ) → k ≤ 9 → r < 2 ^ k → p < 512 → under (9 - k) (2 ^ k + mirrored k r) (512 + p) ≡ inClass k r (mirrored depth p)
+pub under-leaf : (k r p : ℕ) → k ≤ depth → r < 2 ^ k → p < 512 → under (depth - k) (2 ^ k + mirrored k r) (512 + p) ≡ inClass k r (mirrored depth p)
 under-leaf k r p hk hr hp =
-    let d : ℕ = 9 - k in
+    let d : ℕ = depth - k in
     let s : k + d ≡ 9 = omega arith in
     let hp′ : p < 2 ^ (k + d) = rw s hp in
-    let dl : d ≤ 9 - k = omega arith in
+    let dl : d ≤ depth - k = omega arith in
     let h : p / 2 ^ d < 2 ^ k = shr-lt k d hp′ in
-    let u : under (9 - k) (2 ^ k + mirrored k r) (2 ^ (k + d) + p) ≡ eqb (p / 2 ^ d) (mirrored k r) = under-node d (9 - k) k (mirrored k r) p dl (mirror-lt k r) hp′ in
+    let u : under (depth - k) (2 ^ k + mirrored k r) (2 ^ (k + d) + p) ≡ eqb (p / 2 ^ d) (mirrored k r) = under-node d (depth - k) k (mirrored k r) p dl (mirror-lt k r) hp′ in
     let m : mirrored (k + d) p % 2 ^ k ≡ mirrored k (p / 2 ^ d) = mirror-low d k p in
     rw s at u
     ∙ eqb-iff (p / 2 ^ d) (mirrored k r) (mirrored k (p / 2 ^ d)) r

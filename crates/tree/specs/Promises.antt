@@ -5,9 +5,11 @@ use mathlib.Core.Bool.{Bool, false, cond, _||_}
 use mathlib.Core.List.{List}
 use lib.Dec.{eqb}
 use Rattle.rules.specs.Time.{listBlocks}
-use Rattle.rules.specs.Classes.{depth, free, inClass, withClass, withoutClass}
+use Rattle.rules.specs.Classes.{depth, free, inClass}
+use Rattle.blocks.specs.Taking.{withClass, withoutClass}
 use Rattle.rules.specs.Mirror.{mirrored}
-use Rattle.rules.specs.TreeBytes.{treeOf, bitAt, Sized}
+use Rattle.rules.specs.TreeBytes.{treeOf, bitAt}
+use Rattle.blocks.specs.Children.{Sized}
 use Rattle.blocks.specs.Children.{OrOfChildren}
 use Rattle.tree.specs.Under.{under}
 

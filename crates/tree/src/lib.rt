@@ -2,9 +2,11 @@
 ghost use mathlib.Core.Path.{_≡_};
 ghost use Prim.Native.Nat.{_+_, _*_, _<_, _≤_, _^_};
 ghost use Rattle.rules.specs.Time.{listBlocks};
-ghost use Rattle.rules.specs.Classes.{depth, nothing};
+ghost use Rattle.rules.specs.Classes.{depth};
+ghost use Rattle.blocks.specs.Taking.{nothing};
 ghost use Rattle.rules.specs.Mirror.{mirrored};
-ghost use Rattle.rules.specs.TreeBytes.{treeOf, bitAt, Sized};
+ghost use Rattle.rules.specs.TreeBytes.{treeOf, bitAt};
+ghost use Rattle.blocks.specs.Children.{Sized};
 ghost use Rattle.tree.specs.Promises.{Mirrored, Writes, WritesBelow, Joins, MissingOver, JoinsAbove, FreeSays, IsTree, WritesClass, Takes, GivesBack};
 use rules::DEPTH;
 use rules::TREE_BYTES;

@@ -27,7 +27,7 @@ mark-requires-2 : tie.Need-mark-requires-2
 mark-requires-2 c κs = search needs
 
 tell-saving-requires : tie.Need-tell-saving-requires
-tell-saving-requires c κs = fits (c .before .before .before .args .s) (c .before .before .before .pre) _ _ (c .before .save .result) (c .before .save .ensures)
+tell-saving-requires c κs = fits (c .before .before .before .before .before .before .before .args .s) (c .before .before .before .before .before .before .before .pre) _ _ (c .before .before .before .save .result) (c .before .before .before .save .ensures)
 
 same-length : tie.Need-same-length
 same-length c = search needs

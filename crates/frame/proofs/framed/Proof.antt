@@ -5,7 +5,7 @@ use native.Mathlib.Omega.{arith}
 use Rattle.rules.specs.Form.{countKind, countSize, treeKind, treeSize}
 use Rattle.basics.proofs.BytesLaws.{AllBytes}
 use Rattle.frame.specs.declared.After.the-variants.{At}
-use Rattle.frame.specs.Promises.{Passes, PassesAll}
+use Rattle.frame.specs.Promises.{PassesOne, PassesAll}
 use Rattle.frame.proofs.ReadLaws.{wrong-first, wrong-count, wrong-connections, wrong-last, wrong-end, right}
 use Rattle.frame.proofs.framed.Statement.{statement}
 use Rattle.frame.proofs.framed.Tie as tie
@@ -15,8 +15,8 @@ small : (c : tie.After-shared-slice-known) → AllBytes (c .before .args .bytes 
 small c i = omega (arith, c .shared-slice-known .given i)
 
 -- the count's record, the connections' and the tree's are passed
-first-is : (c : tie.After-first) → Passes (c .before .before .before .before .args .bytes .now) 0 countKind countSize (At (c .first .given .0 .0))
-first-is c = subst (Passes (c .before .before .before .before .args .bytes .now) 0 countKind countSize) (c .first .given .1) (c .before .before .pass .ensures)
+first-is : (c : tie.After-first) → PassesOne (c .before .before .before .before .args .bytes .now) 0 countKind countSize (At (c .first .given .0 .0))
+first-is c = subst (PassesOne (c .before .before .before .before .args .bytes .now) 0 countKind countSize) (c .first .given .1) (c .before .before .pass .ensures)
 
 each-is : (c : tie.After-each)
     → PassesAll (c .before .before .before .before .before .before .before .before .before .before .args .bytes .now) (c .before .before .before .before .before .before .first .given .0 .0) (c .before .before .before .before .number .result) (At (c .each .given .0 .0))
@@ -26,10 +26,10 @@ each-is c =
     subst (PassesAll (f .before .before .before .before .args .bytes .now) (f .first .given .0 .0) (n .number .result)) (c .each .given .1) (c .before .before .pass-connections .ensures)
 
 last-is : (c : tie.After-last)
-    → Passes (c .before .before .before .before .before .before .before .before .before .before .before .before .before .before .args .bytes .now) (c .before .before .before .before .each .given .0 .0) treeKind treeSize (At (c .last .given .0 .0))
+    → PassesOne (c .before .before .before .before .before .before .before .before .before .before .before .before .before .before .args .bytes .now) (c .before .before .before .before .each .given .0 .0) treeKind treeSize (At (c .last .given .0 .0))
 last-is c =
     let e = c .before .before .before .before in
-    subst (Passes (e .before .before .before .before .before .before .before .before .before .before .args .bytes .now) (e .each .given .0 .0) treeKind treeSize) (c .last .given .1) (c .before .before .pass2 .ensures)
+    subst (PassesOne (e .before .before .before .before .before .before .before .before .before .before .args .bytes .now) (e .each .given .0 .0) treeKind treeSize) (c .last .given .1) (c .before .before .pass2 .ensures)
 
 pass-requires : tie.Need-pass-requires
 pass-requires c κs = search needs
@@ -44,7 +44,7 @@ returns : tie.Need-returns
 returns c =
     let p = c .before .before in
     let b = p .before .before .args .bytes .now in
-    (refl, wrong-first b (small (p .before)) (subst (Passes b 0 countKind countSize) (c .enum-told .given .1) (p .pass .ensures)))
+    (refl, wrong-first b (small (p .before)) (subst (PassesOne b 0 countKind countSize) (c .enum-told .given .1) (p .pass .ensures)))
 
 cast-number : tie.Need-cast-number
 cast-number c = search needs
@@ -102,7 +102,7 @@ returns-4 c =
     let b = s .before .args .bytes .now in (
       refl,
       wrong-last b (small s) (f .first .given .0 .0) (n .number .result) (first-is f) (n .number .ensures) (e .each .given .0 .0) (each-is e .0)
-          (subst (Passes b (e .each .given .0 .0) treeKind treeSize) (c .enum-told3 .given .1) (p .pass2 .ensures)),
+          (subst (PassesOne b (e .each .given .0 .0) treeKind treeSize) (c .enum-told3 .given .1) (p .pass2 .ensures)),
     )
 
 returns-5 : tie.Need-returns-5

@@ -2,7 +2,7 @@
 use borrow.Author.Needs.{needs}
 use mathlib.Core.Path.{_≡_, subst}
 use Prim.Native.Nat.{_+_}
-use Rattle.frame.specs.Promises.{Heads, Says}
+use Rattle.frame.specs.Promises.{Heads, HeadSays}
 use Rattle.frame.proofs.ReadLaws.{one-kind, passed}
 use Rattle.frame.proofs.pass.Statement.{statement}
 use Rattle.frame.proofs.pass.Tie as tie
@@ -23,7 +23,7 @@ returns c r =
 
 -- the record at the cursor
 read-is : (c : tie.After-read)
-    → Says (c .before .before .before .before .args .bytes .now) (c .before .before .before .before .args .at) (c .read .given .0 .0) (c .read .given .0 .1 .0)
+    → HeadSays (c .before .before .before .before .args .bytes .now) (c .before .before .before .before .args .at) (c .read .given .0 .0) (c .read .given .0 .1 .0)
     × (c .read .given .0 .1 .1 .0 ≡ c .before .before .before .before .args .at + (4 + c .read .given .0 .1 .0))
 read-is c =
     let a = c .before .before .before .before .args in

@@ -6,7 +6,7 @@ use native.Mathlib.Omega.{arith}
 use lib.ListN.{length}
 use Rattle.rules.specs.Form.{connectionKind, connectionSize}
 use Rattle.basics.proofs.BytesLaws.{AllBytes}
-use Rattle.frame.specs.Promises.{Passes}
+use Rattle.frame.specs.Promises.{PassesOne}
 use Rattle.frame.proofs.ReadLaws.{PassedSoFar, connections-none, connections-more, connections-missing, connections-all}
 use Rattle.frame.proofs.pass_connections.Statement.{statement}
 use Rattle.frame.proofs.pass_connections.Tie as tie
@@ -40,7 +40,7 @@ returns c =
     let s = p .before .before .before in
     let a = s .before .args in
     connections-missing (a .bytes .now) (small s) (a .at) (a .n) (l .i) (l .cursor) (p .before .loop-test .taken) (l .inv .1)
-    (subst (Passes (a .bytes .now) (l .cursor) connectionKind connectionSize) (c .enum-told .given .1) (p .pass .ensures))
+    (subst (PassesOne (a .bytes .now) (l .cursor) connectionKind connectionSize) (c .enum-told .given .1) (p .pass .ensures))
 
 add-i : tie.Need-add-i Inv-loop μ-loop
 add-i c = search needs
@@ -54,7 +54,7 @@ loop-again c =
     let l = p .before .before .loop in
     let s = p .before .before .before in
     let a = s .before .args in
-    let r = subst (Passes (a .bytes .now) (l .cursor) connectionKind connectionSize) (c .before .one .given .1) (p .pass .ensures) in
+    let r = subst (PassesOne (a .bytes .now) (l .cursor) connectionKind connectionSize) (c .before .one .given .1) (p .pass .ensures) in
     (omega arith, connections-more (a .bytes .now) (small s) (a .at) (a .n) (l .i) (l .cursor) (p .before .loop-test .taken) (l .inv .1) (c .before .one .given .0 .0) r, omega (arith, r .1, r .0 .fits))
 
 returns-2 : tie.Need-returns-2 Inv-loop μ-loop

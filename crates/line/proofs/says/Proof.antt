@@ -5,7 +5,7 @@ use Prim.Native.Nat.{_≤_}
 use native.Mathlib.Omega.{arith}
 use lib.ListN.{length, drop, replicate}
 use lib.Seq.{length-take-le}
-use Rattle.rules.specs.Commands.{mostNumbers}
+use Rattle.texts.specs.Row.{mostNumbers}
 use Rattle.text.specs.Promises.{HasRow, ReadsRow}
 use Rattle.text.proofs.Rows.{found-within}
 use Rattle.line.proofs.Spoken.{says-named, says-wrong}

@@ -6,7 +6,6 @@ use native.Mathlib.Omega.{arith}
 use lib.ListN.{length}
 use borrow.Author.Tests.{not-true, not-false}
 use Rattle.rules.specs.Sound.{soundNumbers}
-use Rattle.rules.specs.Records.{nth}
 use Rattle.rules.specs.Form.{connectionSize}
 use Rattle.rules.specs.Fields.{handleIn, connectionIn}
 use Rattle.basics.proofs.BytesLaws.{AllBytes}
@@ -15,6 +14,7 @@ use Rattle.restore.specs.Promises.{GoesOn, records}
 use Rattle.restore.proofs.Records.{Cursor, room-first, cursor-first, goes-on, cursor-room, cursor-next, Tested, tested-none, tested-above, tested-falls, tested-fails, tested-more, tested-all}
 use Rattle.restore.proofs.records_sound.Statement.{statement}
 use Rattle.restore.proofs.records_sound.Tie as tie
+use Rattle.images.proofs.PieceLaws.{nth}
 
 abbrev Inv-loop : tie.InvT-loop
 Inv-loop bytes n cursor₀ least₀ i₀ cursor least i = (i ≤ n) × Cursor bytes i cursor × Tested (records bytes) i least

@@ -6,9 +6,9 @@ use Prim.Native.Nat.{_+_, _-_, _≤_, _<_}
 use native.Mathlib.Omega.{arith}
 use lib.ListN.{length}
 use borrow.Author.Tests.{not-true, not-false}
+use Rattle.blocks.proofs.ClassLaws.{within-depth}
 use Rattle.rules.specs.Ownership.{handles}
 use Rattle.rules.specs.Sound.{Numbers}
-use Rattle.rules.specs.Records.{nth}
 use Rattle.rules.specs.Form.{connectionSize}
 use Rattle.rules.specs.Fields.{handleIn, connectionIn}
 use Rattle.basics.proofs.BytesLaws.{AllBytes}
@@ -16,12 +16,13 @@ use Rattle.images.proofs.FrameLaws.{framed-exactly, connections-long}
 use Rattle.tree.specs.Promises.{IsTree}
 use Rattle.restore.specs.Promises.{GoesOn, records}
 use Rattle.restore.proofs.Records.{Cursor, room-first, cursor-first, goes-on, cursor-room, cursor-next}
-use Rattle.restore.proofs.Turns.{Taken, taken-none, taken-tree, turn-numbers, turn-handle, turn-clash, turn-takes, restores-not, restores-all}
+use Rattle.restore.proofs.Turns.{FirstTaken, taken-none, taken-tree, turn-numbers, turn-handle, turn-clash, turn-takes, restores-not, restores-all}
 use Rattle.restore.proofs.restore.Statement.{statement}
 use Rattle.restore.proofs.restore.Tie as tie
+use Rattle.images.proofs.PieceLaws.{nth}
 
 abbrev Inv-loop : tie.InvT-loop
-Inv-loop bytes n s₀ cursor₀ apart₀ i₀ s cursor apart i = (i ≤ n) × Cursor bytes i cursor × Taken (records bytes) i (s .connections) (s .tree .bytes) × (apart ≡ true)
+Inv-loop bytes n s₀ cursor₀ apart₀ i₀ s cursor apart i = (i ≤ n) × Cursor bytes i cursor × FirstTaken (records bytes) i (s .connections) (s .tree .bytes) × (apart ≡ true)
 
 abbrev μ-loop : tie.MeasureT-loop
 μ-loop bytes n s₀ cursor₀ apart₀ i₀ s cursor apart i = n - i
@@ -112,13 +113,13 @@ run-free-requires : tie.Need-run-free-requires Inv-loop μ-loop
 run-free-requires c κs =
     let r = c .before .before .before .before in
     let n = numbers-read r in
-    (omega arith, omega arith, omega arith, treed r)
+    (within-depth (n .deep), omega arith, omega arith, treed r)
 
 set-run-requires : tie.Need-set-run-requires Inv-loop μ-loop
 set-run-requires c κs =
     let r = c .before .before .before .before .before .before .before in
     let n = numbers-read r in
-    (omega arith, omega arith, omega arith, omega arith, treed r)
+    (within-depth (n .deep), omega arith, omega arith, omega arith, treed r)
 
 handle-at-requires : tie.Need-handle-at-requires Inv-loop μ-loop
 handle-at-requires c κs = room (c .before .before .before .before .before .before .before .before .before)

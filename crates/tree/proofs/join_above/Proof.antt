@@ -5,7 +5,7 @@ use Prim.Native.Nat.{_<_, _/_}
 use borrow.Author.Needs.{needs}
 use borrow.Author.Tests.{not-true, ne-eqb}
 use native.Mathlib.Omega.{arith}
-use Rattle.rules.specs.TreeBytes.{Sized}
+use Rattle.blocks.specs.Children.{Sized}
 use Rattle.tree.specs.Promises.{MissingOver}
 use Rattle.tree.proofs.JoinLaws.{Keeps, join-missing, join-stays, join-keeps}
 use Rattle.tree.proofs.join_above.Statement.{statement}

@@ -1,0 +1,2 @@
+-- What the rule that moves a meter promises.
+pub mod Moved
