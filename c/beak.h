@@ -3,7 +3,7 @@
  * Link target/staticlib/libdoor.a, which c/run builds; of a libc it needs memcpy and memset, and nothing else. x86-64 Linux only.
  *
  * Every number and every byte that a call is given is answered by the rule sheet. What the caller must keep to, as nothing checks it:
- *  - a struct beak is all zeros, or what beak_fresh gave, or what a call left, or a copy of such a one: nobody else writes its bytes;
+ *  - a struct beak is all zeros, or what a call left, or a copy of such a one: nobody else writes its bytes;
  *  - one call at a time on a struct beak: no other thread reads or writes it meanwhile;
  *  - as long as a call runs, its image can be read and its buffer written, and neither overlaps the other or the schedule;
  *  - to an export itself the pointer of an image or a buffer is not null, even for no bytes: the functions on a pointer see to that.
@@ -67,6 +67,11 @@ struct beak_said beak_owned(struct beak s, uint32_t block);
 struct beak_said beak_anchored(struct beak s, uint32_t handle, uint32_t block);
 
 /* ---- the calls, on a schedule behind a pointer; a refused one leaves it as it was */
+/* Start anew, with no connection. It has no answer. */
+static inline void beak_start(struct beak *s) {
+    *s = beak_fresh();
+}
+
 /* Admit a connection: PLACED. Refused: 1 handle above 63, 2 handle live, 4 interval outside 6 to 3,200 slots, 5 floor or ceiling wrong, 6 no open anchor. */
 static inline struct beak_said beak_admit(struct beak *s, uint32_t handle, uint32_t interval, uint32_t floor, uint32_t ceiling) {
     struct beak_called r = beak_admitted(*s, handle, interval, floor, ceiling);

@@ -20,6 +20,11 @@ static void told(const char *call, struct beak_said r, uint32_t kind, uint32_t f
     expect(r.kind == kind && r.first == first && r.second == second && r.third == third, call);
 }
 
+static bool all(const uint8_t *from, const uint8_t *end, uint8_t byte) {
+    while (from < end && *from == byte) from++;
+    return from == end;
+}
+
 static void whole_case(void) {
     told("admit 0 48 1 4     ok 8 0 1", beak_admit(&house, 0, 48, 1, 4), BEAK_PLACED, 8, 0, 1);
     told("admit 1 48 1 1     ok 8 4 1", beak_admit(&house, 1, 48, 1, 1), BEAK_PLACED, 8, 4, 1);
@@ -37,9 +42,10 @@ static void save_and_load(void) {
     told("save into no bytes", beak_save(&house, NULL, 0), BEAK_REFUSED, 8, 0, 0);
     struct beak_said saved = beak_save(&house, image, sizeof image);
     told("save", saved, BEAK_SAVED, 138 + 2 * 18, 0, 0);
-    expect(image[saved.first] == 0x55, "the rest of the buffer is unchanged");
+    expect(all(image + saved.first, image + sizeof image, 0x55), "the rest of the buffer is unchanged");
 
-    struct beak other = beak_fresh();
+    struct beak other;
+    beak_start(&other);
     told("load no bytes", beak_load(&other, NULL, 0), BEAK_REFUSED, 9, 0, 0);
     told("load", beak_load(&other, image, saved.first), BEAK_LOADED, 2, 0, 0);
     expect(memcmp(&house, &other, sizeof house) == 0, "what was saved and loaded is the same, byte by byte");
@@ -50,7 +56,7 @@ static void zeros_are_fresh(void) {
     struct beak fresh, zeros;
     memset(&fresh, 0xAA, sizeof fresh);
     memset(&zeros, 0, sizeof zeros);
-    fresh = beak_fresh();
+    beak_start(&fresh);
     expect(memcmp(&fresh, &zeros, sizeof zeros) == 0, "a schedule of zeros is the fresh one");
 }
 

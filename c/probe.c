@@ -5,7 +5,7 @@
 #include <string.h>
 #include "beak.h"
 
-enum { LONGEST_SCRIPT = 65536, LARGEST_BUFFER = 2048, LARGEST_IMAGE = 1290 };
+enum { LONGEST_SCRIPT = 65536, LARGEST_BUFFER = 2048, CONNECTION_KIND = 2 };
 
 static struct beak s; /* static, so all zeros: fresh */
 static char script[LONGEST_SCRIPT + 1];
@@ -73,9 +73,26 @@ static void print_bytes(size_t count) {
     for (size_t i = 0; i < count; i++) printf("%02x", bytes[i]);
 }
 
+static const char *word(uint32_t kind) {
+    switch (kind) {
+    case BEAK_REFUSED: return "no";
+    case BEAK_PLACED:
+    case BEAK_DROPPED: return "ok";
+    case BEAK_KEPT: return "kept";
+    case BEAK_GROWN: return "grown";
+    case BEAK_SHRUNK: return "shrunk";
+    case BEAK_TIGHT: return "tight";
+    case BEAK_OWNER: return "owner";
+    case BEAK_IDLE: return "idle";
+    case BEAK_SLOTS: return "slots";
+    case BEAK_SAVED: return "saved";
+    case BEAK_LOADED: return "loaded";
+    }
+    return "?";
+}
+
 static void print(struct beak_said r) {
-    static const char *const words[] = {"?", "no", "ok", "ok", "kept", "grown", "shrunk", "tight", "owner", "idle", "slots", "saved", "loaded"};
-    printf("%s", r.kind <= BEAK_LOADED ? words[r.kind] : words[0]);
+    printf("%s", word(r.kind));
     if (r.kind == BEAK_PLACED)
         printf(" %u %u %u", r.first, r.second, r.third);
     else if (r.kind != BEAK_DROPPED && r.kind != BEAK_IDLE)
@@ -84,11 +101,15 @@ static void print(struct beak_said r) {
 
 static uint32_t little(const uint8_t *b, int width) { return width == 0 ? 0 : b[0] + (little(b + 1, width - 1) << 8); }
 
-/* The connections, from the image's records of 18 bytes. */
+static void print_connection(const uint8_t *b) {
+    printf("%u %u %u %u %u %u %u\n", b[0], b[1], little(b + 2, 2), little(b + 4, 2), little(b + 6, 2), little(b + 8, 2), little(b + 10, 4));
+}
+
+/* The connections, from the image: a record is its length, its kind, and so many bytes. */
 static void print_state(void) {
-    struct beak_said r = beak_save(&s, bytes, LARGEST_IMAGE);
-    for (const uint8_t *b = bytes + 6; b + 132 < bytes + r.first; b += 18)
-        printf("%u %u %u %u %u %u %u\n", b[4], b[5], little(b + 6, 2), little(b + 8, 2), little(b + 10, 2), little(b + 12, 2), little(b + 14, 4));
+    const uint8_t *b = bytes, *end = bytes + beak_save(&s, bytes, sizeof bytes).first;
+    for (; b < end; b += 4 + little(b, 2))
+        if (little(b + 2, 2) == CONNECTION_KIND) print_connection(b + 4);
     printf("end");
 }
 
@@ -127,7 +148,7 @@ static bool command(struct rest r) {
 static bool save(struct rest r) {
     uint32_t room;
     if (ends(r)) {
-        struct beak_said said = beak_save(&s, bytes, LARGEST_IMAGE);
+        struct beak_said said = beak_save(&s, bytes, sizeof bytes);
         printf("image ");
         print_bytes(said.first);
         return true;
@@ -166,7 +187,7 @@ static bool line(struct rest r) {
     }
     if (passes(&r, "fresh")) {
         if (!ends(r)) return false;
-        s = beak_fresh();
+        beak_start(&s);
         printf("ok");
         return true;
     }

@@ -27,7 +27,7 @@ static void save(void) {
     size = said.first;
 }
 
-static void fresh(void) { s = beak_fresh(); }
+static void fresh(void) { beak_start(&s); }
 
 static void fill(void) {
     fresh();

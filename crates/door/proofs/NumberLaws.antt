@@ -4,11 +4,13 @@ use mathlib.Core.Path.{_≡_, refl, sym, ap, _∙_}
 use mathlib.Core.Bool.{cond}
 use mathlib.Core.List.{List}
 use lib.Dec.{eqb}
+use Rattle.rules.specs.declared.Schedule.{Schedule}
 use Rattle.rules.specs.Answers.{Answer, Outcome, refused, ok, dropped, kept, grown, shrunk, tight, owner, idle, slots, saved, loaded}
 use Rattle.rules.specs.Save.{Written}
+use Rattle.run.specs.Promises.{Starts}
 use Rattle.door.specs.declared.Said.{Said}
 use Rattle.door.specs.declared.Called.{Called}
-use Rattle.door.specs.Numbers.{numbers, Says}
+use Rattle.door.specs.Numbers.{inNumbers, Says}
 use Rattle.door.specs.Promises.{Leaves, Writes}
 
 -- The answer that numbers are of.
@@ -27,7 +29,7 @@ readBack s =
     cond (eqb (s .kind) 11) (saved (s .first)) (
     loaded (s .first))))))))))))
 
-read-back : (a : Answer) → readBack (numbers a) ≡ a
+read-back : (a : Answer) → readBack (inNumbers a) ≡ a
 unfolding readBack
 read-back (refused n) = refl
 read-back (ok F A L) = refl
@@ -43,14 +45,21 @@ read-back (saved n) = refl
 read-back (loaded n) = refl
 
 -- Of all answers, whatever their values.
-pub numbers-injective : (a b : Answer) → numbers a ≡ numbers b → a ≡ b
-numbers-injective a b e = sym (read-back a) ∙ ap readBack e ∙ read-back b
+pub in-numbers-injective : (a b : Answer) → inNumbers a ≡ inNumbers b → a ≡ b
+in-numbers-injective a b e = sym (read-back a) ∙ ap readBack e ∙ read-back b
 
 -- What C is told says which answer it is.
 pub says-injective : (a b : Answer) (r : Said) → Says a r → Says b r → a ≡ b
-says-injective a b r p q = numbers-injective a b (sym p ∙ q)
+says-injective a b r p q = in-numbers-injective a b (sym p ∙ q)
+
+-- What is said of the case that an answer is, is said of the answer.
+pub says-case : {A : Type 0} (of : A → Answer) {a case : A} {r : Said} → a ≡ case → Says (of case) r → Says (of a) r
+says-case of e p = p ∙ ap (λ x. inNumbers (of x)) (sym e)
 
 -- ---- two results that meet a statement are equal, the buffer too
+pub starts-unique : (r t : Schedule) → Starts r → Starts t → r ≡ t
+starts-unique r t p q = p .is ∙ sym (q .is)
+
 pub says-unique : (a : Answer) (r t : Said) → Says a r → Says a t → r ≡ t
 says-unique a r t p q = p ∙ sym q
 

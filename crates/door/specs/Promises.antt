@@ -8,11 +8,11 @@ use Rattle.rules.specs.Answers.{Outcome}
 use Rattle.rules.specs.Save.{Written}
 use Rattle.door.specs.declared.Said.{Said}
 use Rattle.door.specs.declared.Called.{Called}
-use Rattle.door.specs.Numbers.{numbers, Says}
+use Rattle.door.specs.Numbers.{inNumbers, Says}
 
 -- What a call leaves, with the answer in numbers.
 abbrev pub called : Outcome → Called
-called o = record { said = numbers (o .answer); schedule = o .schedule }
+called o = record { said = inNumbers (o .answer); schedule = o .schedule }
 
 -- A call on a schedule: the answer and the schedule are the rule's; and the schedule is good again.
 pub record Leaves (o : Outcome) (r : Called) : Type 0 where

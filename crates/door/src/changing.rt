@@ -1,10 +1,10 @@
 //! The calls that change a schedule: it comes by value, and goes back beside the answer.
 //! Each has the answer in numbers before it takes the schedule: the other way round the schedule is copied once more.
-ghost use mathlib.Core.Path.{_≡_};
-ghost use Rattle.rules.specs.Good.{Good, fresh as freshRule};
+ghost use Rattle.rules.specs.Good.{Good};
 ghost use Rattle.rules.specs.Admit.{admit as admitRule};
 ghost use Rattle.rules.specs.Drop.{dropHandle};
 ghost use Rattle.rules.specs.Report.{report as reportRule};
+ghost use Rattle.run.specs.Promises.{Starts};
 ghost use Rattle.door.specs.Promises.{Leaves};
 use crate::Called;
 use crate::saying::admission;
@@ -19,7 +19,7 @@ use schedule::report;
 /// A fresh schedule: every byte of it is 0.
 #[no_mangle]
 pub extern "C" fn beak_fresh() -> Schedule
-    ensures { λ r. ⌜ (r ≡ freshRule) × Good r ⌝ }
+    ensures { λ r. ⌜ Starts r ⌝ }
 {
     fresh()
 }

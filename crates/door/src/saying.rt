@@ -2,7 +2,7 @@
 ghost use mathlib.Core.Path.{_≡_};
 ghost use Rattle.rules.specs.Refusals.{number};
 ghost use Rattle.rules.specs.Answers.{refused as refusedWith, saved as savedAs, ofAdmission, ofDropping, ofReporting, ofOwnership, ofDistance, ofLoading};
-ghost use Rattle.door.specs.Numbers.{says as saysOf, Says};
+ghost use Rattle.door.specs.Numbers.{saidAs, Says};
 use crate::Said;
 use rules::Admission;
 use rules::Distance;
@@ -40,7 +40,7 @@ const LOADED: u32 = 12;
 
 // An answer with one value, or with none.
 fn say(kind: u32, first: u32) -> Said
-    ensures { λ r. ⌜ r ≡ saysOf kind first 0 0 ⌝ }
+    ensures { λ r. ⌜ r ≡ saidAs kind first 0 0 ⌝ }
 {
     Said {
         kind,

@@ -1,7 +1,7 @@
 -- `door::saying::admission` meets its contract: each case has its own numbers.
-use mathlib.Core.Path.{sym, ap, _∙_}
+use mathlib.Core.Path.{refl}
 use Rattle.rules.specs.Answers.{ofAdmission}
-use Rattle.door.specs.Numbers.{numbers}
+use Rattle.door.proofs.NumberLaws.{says-case}
 use borrow.Author.Needs.{needs}
 use Rattle.door.proofs.saying.admission.Statement.{statement}
 use Rattle.door.proofs.saying.admission.Tie as tie
@@ -25,10 +25,10 @@ refused-requires : tie.Need-refused-requires
 refused-requires c κs = search needs
 
 returns : tie.Need-returns
-returns c = ap (λ a. numbers (ofAdmission a)) (sym (c .before .answer .given .1))
+returns c = says-case ofAdmission (c .before .answer .given .1) refl
 
 returns-2 : tie.Need-returns-2
-returns-2 c = c .refused .ensures ∙ ap (λ a. numbers (ofAdmission a)) (sym (c .before .before .answer2 .given .1))
+returns-2 c = says-case ofAdmission (c .before .before .answer2 .given .1) (c .refused .ensures)
 
 pub admission-spec : {M : Type 1} → statement M
 admission-spec =

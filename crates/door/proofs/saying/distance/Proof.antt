@@ -1,7 +1,6 @@
 -- `door::saying::distance` meets its contract: each case has its own numbers.
-use mathlib.Core.Path.{sym, ap, _∙_}
 use Rattle.rules.specs.Answers.{ofDistance}
-use Rattle.door.specs.Numbers.{numbers}
+use Rattle.door.proofs.NumberLaws.{says-case}
 use borrow.Author.Needs.{needs}
 use Rattle.door.proofs.saying.distance.Statement.{statement}
 use Rattle.door.proofs.saying.distance.Tie as tie
@@ -19,10 +18,10 @@ refused-requires : tie.Need-refused-requires
 refused-requires c κs = search needs
 
 returns : tie.Need-returns
-returns c = c .say .ensures ∙ ap (λ a. numbers (ofDistance a)) (sym (c .before .before .answer .given .1))
+returns c = says-case ofDistance (c .before .before .answer .given .1) (c .say .ensures)
 
 returns-2 : tie.Need-returns-2
-returns-2 c = c .refused .ensures ∙ ap (λ a. numbers (ofDistance a)) (sym (c .before .before .answer2 .given .1))
+returns-2 c = says-case ofDistance (c .before .before .answer2 .given .1) (c .refused .ensures)
 
 pub distance-spec : {M : Type 1} → statement M
 distance-spec =

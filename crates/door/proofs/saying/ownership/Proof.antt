@@ -1,7 +1,6 @@
 -- `door::saying::ownership` meets its contract: each case has its own numbers.
-use mathlib.Core.Path.{sym, ap, _∙_}
 use Rattle.rules.specs.Answers.{ofOwnership}
-use Rattle.door.specs.Numbers.{numbers}
+use Rattle.door.proofs.NumberLaws.{says-case}
 use borrow.Author.Needs.{needs}
 use Rattle.door.proofs.saying.ownership.Statement.{statement}
 use Rattle.door.proofs.saying.ownership.Tie as tie
@@ -22,10 +21,10 @@ say-requires-2 : tie.Need-say-requires-2
 say-requires-2 c κs = search needs
 
 returns : tie.Need-returns
-returns c = c .say .ensures ∙ ap (λ a. numbers (ofOwnership a)) (sym (c .before .before .answer .given .1))
+returns c = says-case ofOwnership (c .before .before .answer .given .1) (c .say .ensures)
 
 returns-2 : tie.Need-returns-2
-returns-2 c = c .say2 .ensures ∙ ap (λ a. numbers (ofOwnership a)) (sym (c .before .enum-told .given .1))
+returns-2 c = says-case ofOwnership (c .before .enum-told .given .1) (c .say2 .ensures)
 
 pub ownership-spec : {M : Type 1} → statement M
 ownership-spec =

@@ -1,7 +1,6 @@
 -- `door::saying::reporting` meets its contract: each case has its own numbers.
-use mathlib.Core.Path.{sym, ap, _∙_}
 use Rattle.rules.specs.Answers.{ofReporting}
-use Rattle.door.specs.Numbers.{numbers}
+use Rattle.door.proofs.NumberLaws.{says-case}
 use borrow.Author.Needs.{needs}
 use Rattle.door.proofs.saying.reporting.Statement.{statement}
 use Rattle.door.proofs.saying.reporting.Tie as tie
@@ -49,19 +48,19 @@ refused-requires : tie.Need-refused-requires
 refused-requires c κs = search needs
 
 returns : tie.Need-returns
-returns c = c .say .ensures ∙ ap (λ a. numbers (ofReporting a)) (sym (c .before .before .answer .given .1))
+returns c = says-case ofReporting (c .before .before .answer .given .1) (c .say .ensures)
 
 returns-2 : tie.Need-returns-2
-returns-2 c = c .say2 .ensures ∙ ap (λ a. numbers (ofReporting a)) (sym (c .before .before .answer2 .given .1))
+returns-2 c = says-case ofReporting (c .before .before .answer2 .given .1) (c .say2 .ensures)
 
 returns-3 : tie.Need-returns-3
-returns-3 c = c .say3 .ensures ∙ ap (λ a. numbers (ofReporting a)) (sym (c .before .before .answer3 .given .1))
+returns-3 c = says-case ofReporting (c .before .before .answer3 .given .1) (c .say3 .ensures)
 
 returns-4 : tie.Need-returns-4
-returns-4 c = c .say4 .ensures ∙ ap (λ a. numbers (ofReporting a)) (sym (c .before .before .answer4 .given .1))
+returns-4 c = says-case ofReporting (c .before .before .answer4 .given .1) (c .say4 .ensures)
 
 returns-5 : tie.Need-returns-5
-returns-5 c = c .refused .ensures ∙ ap (λ a. numbers (ofReporting a)) (sym (c .before .before .answer5 .given .1))
+returns-5 c = says-case ofReporting (c .before .before .answer5 .given .1) (c .refused .ensures)
 
 pub reporting-spec : {M : Type 1} → statement M
 reporting-spec =
