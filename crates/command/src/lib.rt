@@ -8,8 +8,8 @@ use rules::MOST_OUTPUT;
 use rules::Schedule;
 pub use running::run;
 
-/// The schedule after a line, and the place after what it printed.
-pub struct Carried {
+// The schedule after a line, and the place after what it printed.
+struct Carried {
     pub schedule: Schedule,
     pub at: usize,
 }

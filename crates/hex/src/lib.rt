@@ -12,8 +12,8 @@ pub enum Hex {
     Wrong,
 }
 
-/// The number that a hexadecimal digit says.
-pub enum Nibble {
+// The number that a hexadecimal digit says.
+enum Nibble {
     Is(u8),
     Wrong,
 }

@@ -2,10 +2,7 @@
 
 use libc::STDOUT_FILENO;
 use rules::LIST_BLOCKS;
-use rules::LONGEST_ANSWER;
-use rules::Refusal;
 use rules::TREE_BYTES;
-use text::put_refused;
 
 // Node 0, which is none, and the nodes of the tree.
 const NODES: usize = 2 * LIST_BLOCKS;
@@ -24,14 +21,6 @@ pub fn number(n: u64) {
 /// The end of a line.
 pub fn end() {
     word(b"\n");
-}
-
-/// The line of a refusal.
-pub fn refused(r: Refusal) {
-    let mut out = [0u8; LONGEST_ANSWER];
-    let count = put_refused(&mut out, 0, r);
-    word(&out[..count]);
-    end();
 }
 
 /// How many bits of a tree are set.
