@@ -4,10 +4,10 @@ use Rattle.rules.specs.Good.{Good}
 use Rattle.rules.specs.Answers.{Outcome}
 use Rattle.door.specs.declared.Said.{Said}
 use Rattle.door.specs.declared.Called.{Called}
-use Rattle.door.specs.Numbers.{Says}
+use Rattle.door.specs.Numbers.{InNumbers}
 use Rattle.door.specs.Promises.{called, Leaves}
 
-pub leaves : {left o : Outcome} {r : Said} → Says (left .answer) r → left ≡ o → Good (left .schedule)
+pub leaves : {left o : Outcome} {r : Said} → InNumbers (left .answer) r → left ≡ o → Good (left .schedule)
     → Leaves o (record { said = r; schedule = left .schedule })
 leaves {left} {o} {r} p e g =
     record { is = ap {B = Called} (λ (s : Said). record { said = s; schedule = left .schedule }) p ∙ ap called e; good = g }

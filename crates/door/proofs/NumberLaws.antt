@@ -10,7 +10,7 @@ use Rattle.rules.specs.Save.{Written}
 use Rattle.run.specs.Promises.{Starts}
 use Rattle.door.specs.declared.Said.{Said}
 use Rattle.door.specs.declared.Called.{Called}
-use Rattle.door.specs.Numbers.{inNumbers, Says}
+use Rattle.door.specs.Numbers.{inNumbers, InNumbers}
 use Rattle.door.specs.Promises.{Leaves, Writes}
 
 -- The answer that numbers are of.
@@ -49,18 +49,18 @@ pub in-numbers-injective : (a b : Answer) → inNumbers a ≡ inNumbers b → a 
 in-numbers-injective a b e = sym (read-back a) ∙ ap readBack e ∙ read-back b
 
 -- What C is told says which answer it is.
-pub says-injective : (a b : Answer) (r : Said) → Says a r → Says b r → a ≡ b
+pub says-injective : (a b : Answer) (r : Said) → InNumbers a r → InNumbers b r → a ≡ b
 says-injective a b r p q = in-numbers-injective a b (sym p ∙ q)
 
 -- What is said of the case that an answer is, is said of the answer.
-pub says-case : {A : Type 0} (of : A → Answer) {a case : A} {r : Said} → a ≡ case → Says (of case) r → Says (of a) r
+pub says-case : {A : Type 0} (of : A → Answer) {a case : A} {r : Said} → a ≡ case → InNumbers (of case) r → InNumbers (of a) r
 says-case of e p = p ∙ ap (λ x. inNumbers (of x)) (sym e)
 
 -- ---- two results that meet a statement are equal, the buffer too
 pub starts-unique : (r t : Schedule) → Starts r → Starts t → r ≡ t
 starts-unique r t p q = p .is ∙ sym (q .is)
 
-pub says-unique : (a : Answer) (r t : Said) → Says a r → Says a t → r ≡ t
+pub says-unique : (a : Answer) (r t : Said) → InNumbers a r → InNumbers a t → r ≡ t
 says-unique a r t p q = p ∙ sym q
 
 pub leaves-unique : (o : Outcome) (r t : Called) → Leaves o r → Leaves o t → r ≡ t

@@ -8,12 +8,12 @@ use Rattle.rules.specs.Answers.{ofSaving}
 use Rattle.rules.specs.Save.{Written, save}
 use Rattle.image.specs.Promises.{Saves}
 use Rattle.door.specs.declared.Said.{Said}
-use Rattle.door.specs.Numbers.{inNumbers, Says}
+use Rattle.door.specs.Numbers.{inNumbers, InNumbers}
 use Rattle.door.specs.Promises.{Writes}
 use Rattle.door.proofs.NumberLaws.{says-case}
 
 module _ (s : Schedule) (before after : List ℕ) where
-  pub writes : (a b : Saving) (r : Said) → Saves s before after a → a ≡ b → Says (ofSaving b) r → Writes (save s before) after r
+  pub writes : (a b : Saving) (r : Said) → Saves s before after a → a ≡ b → InNumbers (ofSaving b) r → Writes (save s before) after r
   writes a b r p e q =
       record {
         says = says-case ofSaving e q ∙ ap (λ (w : Written). inNumbers (w .answer)) p;

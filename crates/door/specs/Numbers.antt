@@ -24,5 +24,5 @@ inNumbers (saved n) = saidAs 11 n 0 0
 inNumbers (loaded n) = saidAs 12 n 0 0
 
 -- What is said is the answer, in numbers.
-abbrev pub Says : Answer → Said → Type 0
-Says answer r = r ≡ inNumbers answer
+abbrev pub InNumbers : Answer → Said → Type 0
+InNumbers answer r = r ≡ inNumbers answer

@@ -8,7 +8,7 @@ use Rattle.rules.specs.Answers.{Outcome}
 use Rattle.rules.specs.Save.{Written}
 use Rattle.door.specs.declared.Said.{Said}
 use Rattle.door.specs.declared.Called.{Called}
-use Rattle.door.specs.Numbers.{inNumbers, Says}
+use Rattle.door.specs.Numbers.{inNumbers, InNumbers}
 
 -- What a call leaves, with the answer in numbers.
 abbrev pub called : Outcome → Called
@@ -21,5 +21,5 @@ pub record Leaves (o : Outcome) (r : Called) : Type 0 where
 
 -- A save: the answer and every byte of the buffer are the rule's.
 pub record Writes (w : Written) (after : List ℕ) (r : Said) : Type 0 where
-  pub says : Says (w .answer) r
+  pub says : InNumbers (w .answer) r
   pub bytes : after ≡ w .buffer

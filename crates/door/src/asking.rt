@@ -2,7 +2,7 @@
 ghost use Rattle.rules.specs.Good.{Good};
 ghost use Rattle.rules.specs.Owner.{ownerOf};
 ghost use Rattle.rules.specs.Anchor.{anchor as anchorRule};
-ghost use Rattle.door.specs.Numbers.{Says};
+ghost use Rattle.door.specs.Numbers.{InNumbers};
 use crate::Said;
 use crate::saying::distance;
 use crate::saying::ownership;
@@ -14,7 +14,7 @@ use rules::Schedule;
 #[no_mangle]
 pub extern "C" fn beak_owned(s: Schedule, block: u32) -> Said
     requires { ⌜ Good s ⌝ }
-    ensures { λ r. ⌜ Says (ownerOf s block) r ⌝ }
+    ensures { λ r. ⌜ InNumbers (ownerOf s block) r ⌝ }
 {
     ownership(owner(s, block))
 }
@@ -23,7 +23,7 @@ pub extern "C" fn beak_owned(s: Schedule, block: u32) -> Said
 #[no_mangle]
 pub extern "C" fn beak_anchored(s: Schedule, handle: u32, block: u32) -> Said
     requires { ⌜ Good s ⌝ }
-    ensures { λ r. ⌜ Says (anchorRule s handle block) r ⌝ }
+    ensures { λ r. ⌜ InNumbers (anchorRule s handle block) r ⌝ }
 {
     distance(anchor(s, handle, block))
 }

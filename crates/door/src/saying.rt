@@ -2,7 +2,7 @@
 ghost use mathlib.Core.Path.{_≡_};
 ghost use Rattle.rules.specs.Refusals.{number};
 ghost use Rattle.rules.specs.Answers.{refused as refusedWith, saved as savedAs, ofAdmission, ofDropping, ofReporting, ofOwnership, ofDistance, ofLoading};
-ghost use Rattle.door.specs.Numbers.{saidAs, Says};
+ghost use Rattle.door.specs.Numbers.{saidAs, InNumbers};
 use crate::Said;
 use rules::Admission;
 use rules::Distance;
@@ -51,13 +51,13 @@ fn say(kind: u32, first: u32) -> Said
 }
 
 pub fn refused(r: Refusal) -> Said
-    ensures { λ s. ⌜ Says (refusedWith (number r)) s ⌝ }
+    ensures { λ s. ⌜ InNumbers (refusedWith (number r)) s ⌝ }
 {
     say(REFUSED, refusal_number(r))
 }
 
 pub fn admission(answer: Admission) -> Said
-    ensures { λ r. ⌜ Says (ofAdmission answer) r ⌝ }
+    ensures { λ r. ⌜ InNumbers (ofAdmission answer) r ⌝ }
 {
     match answer {
         Admission::Placed {
@@ -75,7 +75,7 @@ pub fn admission(answer: Admission) -> Said
 }
 
 pub fn dropping(answer: Dropping) -> Said
-    ensures { λ r. ⌜ Says (ofDropping answer) r ⌝ }
+    ensures { λ r. ⌜ InNumbers (ofDropping answer) r ⌝ }
 {
     match answer {
         Dropping::Done => say(DROPPED, 0),
@@ -84,7 +84,7 @@ pub fn dropping(answer: Dropping) -> Said
 }
 
 pub fn reporting(answer: Reporting) -> Said
-    ensures { λ r. ⌜ Says (ofReporting answer) r ⌝ }
+    ensures { λ r. ⌜ InNumbers (ofReporting answer) r ⌝ }
 {
     match answer {
         Reporting::Kept(length) => say(KEPT, length as u32),
@@ -96,7 +96,7 @@ pub fn reporting(answer: Reporting) -> Said
 }
 
 pub fn ownership(answer: Ownership) -> Said
-    ensures { λ r. ⌜ Says (ofOwnership answer) r ⌝ }
+    ensures { λ r. ⌜ InNumbers (ofOwnership answer) r ⌝ }
 {
     match answer {
         Ownership::Handle(handle) => say(OWNER, handle as u32),
@@ -105,7 +105,7 @@ pub fn ownership(answer: Ownership) -> Said
 }
 
 pub fn distance(answer: Distance) -> Said
-    ensures { λ r. ⌜ Says (ofDistance answer) r ⌝ }
+    ensures { λ r. ⌜ InNumbers (ofDistance answer) r ⌝ }
 {
     match answer {
         Distance::Slots(n) => say(SLOTS, n),
@@ -115,13 +115,13 @@ pub fn distance(answer: Distance) -> Said
 
 // A save's size, which fits: an image has 1,290 bytes at most.
 pub fn saved(size: u32) -> Said
-    ensures { λ r. ⌜ Says (savedAs size) r ⌝ }
+    ensures { λ r. ⌜ InNumbers (savedAs size) r ⌝ }
 {
     say(SAVED, size)
 }
 
 pub fn loading(answer: Loading) -> Said
-    ensures { λ r. ⌜ Says (ofLoading answer) r ⌝ }
+    ensures { λ r. ⌜ InNumbers (ofLoading answer) r ⌝ }
 {
     match answer {
         Loading::Count(n) => say(LOADED, n as u32),
