@@ -3,7 +3,7 @@
  * Link target/staticlib/libdoor.a, which c/run builds; of a libc it needs memcpy and memset, and nothing else. x86-64 Linux only.
  *
  * Every number and every byte that a call is given is answered by the rule sheet. What the caller must keep to, as nothing checks it:
- *  - a struct beak is all zeros, or what a call left, or a copy of such a one: nobody else writes its bytes;
+ *  - a struct beak is all zeros, or what beak_fresh gave, or what a call left, or a copy of such a one: nobody else writes its bytes;
  *  - one call at a time on a struct beak: no other thread reads or writes it meanwhile;
  *  - as long as a call runs, its image can be read and its buffer written, and neither overlaps the other or the schedule;
  *  - to an export itself the pointer of an image or a buffer is not null, even for no bytes: the functions on a pointer see to that.

@@ -1,9 +1,9 @@
 -- What the writing of an answer promises.
 use Prim.Native.Nat.{ℕ, _+_, _-_, _^_, _<_, _≤_}
+use mathlib.Core.Path.{_≡_}
 use mathlib.Core.List.{List, [], _∷_, _++_}
 use Rattle.rules.specs.declared.Saving.{Saving}
-use Rattle.rules.specs.declared.Saving.the-variants.{Size, Refused}
-use Rattle.rules.specs.Answers.{Answer}
+use Rattle.rules.specs.Answers.{Answer, saved, ofSaving}
 use Rattle.rules.specs.Text.{byte}
 use Rattle.rules.specs.Words.{wordsOf, longestAnswer}
 use Rattle.text.specs.Promises.{Puts, PutsWithin}
@@ -21,7 +21,6 @@ pub record PutsAnswer (entry : List ℕ) (at : ℕ) (answer : Answer) (exit : Li
   pub line : PutsLine entry at (wordsOf answer) exit next
   pub room : next ≤ at + longestAnswer
 
--- A size that can be printed.
+-- A size, if there is one, that can be printed.
 abbrev pub SizeFits : Saving → Type 0
-SizeFits (Size n) = n < 2 ^ 32
-SizeFits (Refused r) = Unit {0}
+SizeFits answer = (n : ℕ) → ofSaving answer ≡ saved n → n < 2 ^ 32

@@ -15,10 +15,9 @@ use borrow.Author.Tests.{eqb-true}
 use Rattle.rules.specs.Classes.{depth, classTaken, inClass, free}
 use Rattle.blocks.specs.Taking.{withClass, withoutClass, nothing}
 use Rattle.rules.specs.Mirror.{mirrored}
-use Rattle.blocks.specs.Children.{OrOfChildren}
+use Rattle.blocks.specs.Children.{OrOfChildren, Sized}
 use Rattle.rules.specs.Nodes.{nodeBit}
 use Rattle.rules.specs.TreeBytes.{packed, treeByte, treeOf, bitOf, bitAt}
-use Rattle.blocks.specs.Children.{Sized}
 use Rattle.basics.proofs.BoolLaws.{is-false}
 use Rattle.basics.proofs.BelowLaws.{length-tabulate, getD-tabulate}
 use Rattle.blocks.proofs.ClassLaws.{class-taken-list}

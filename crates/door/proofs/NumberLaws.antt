@@ -4,10 +4,8 @@ use mathlib.Core.Path.{_≡_, refl, sym, ap, _∙_}
 use mathlib.Core.Bool.{cond}
 use mathlib.Core.List.{List}
 use lib.Dec.{eqb}
-use Rattle.rules.specs.declared.Schedule.{Schedule}
 use Rattle.rules.specs.Answers.{Answer, Outcome, refused, ok, dropped, kept, grown, shrunk, tight, owner, idle, slots, saved, loaded}
 use Rattle.rules.specs.Save.{Written}
-use Rattle.run.specs.Promises.{Starts}
 use Rattle.door.specs.declared.Said.{Said}
 use Rattle.door.specs.declared.Called.{Called}
 use Rattle.door.specs.Numbers.{inNumbers, InNumbers}
@@ -57,9 +55,6 @@ pub says-case : {A : Type 0} (of : A → Answer) {a case : A} {r : Said} → a �
 says-case of e p = p ∙ ap (λ x. inNumbers (of x)) (sym e)
 
 -- ---- two results that meet a statement are equal, the buffer too
-pub starts-unique : (r t : Schedule) → Starts r → Starts t → r ≡ t
-starts-unique r t p q = p .is ∙ sym (q .is)
-
 pub says-unique : (a : Answer) (r t : Said) → InNumbers a r → InNumbers a t → r ≡ t
 says-unique a r t p q = p ∙ sym q
 

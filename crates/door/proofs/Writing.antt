@@ -1,5 +1,5 @@
 -- What a save hands to C: the answer in numbers and the bytes are the rule's.
-use mathlib.Core.Path.{_≡_, sym, ap, _∙_}
+use mathlib.Core.Path.{_≡_, ap, _∙_}
 use mathlib.Core.List.{List}
 use Prim.Native.Nat.{ℕ}
 use Rattle.rules.specs.declared.Schedule.{Schedule}

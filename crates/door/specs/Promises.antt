@@ -2,7 +2,6 @@
 use Prim.Native.Nat.{ℕ}
 use mathlib.Core.Path.{_≡_}
 use mathlib.Core.List.{List}
-use Rattle.rules.specs.declared.Schedule.{Schedule}
 use Rattle.rules.specs.Good.{Good}
 use Rattle.rules.specs.Answers.{Outcome}
 use Rattle.rules.specs.Save.{Written}

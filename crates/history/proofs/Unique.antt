@@ -1,5 +1,6 @@
 -- Each public call has one outcome.
 use mathlib.Core.Path.{sym, _∙_}
+use Rattle.run.proofs.Calls.{starts-unique}
 use Rattle.schedule.proofs.Calls.{admit-unique, drop-unique, report-unique}
 use Rattle.questions.proofs.Asked.{owner-unique, anchor-unique}
 use Rattle.image.proofs.Calls.{save-unique, load-unique}
@@ -9,7 +10,7 @@ use Rattle.history.specs.OneOutcome.{OneOutcome}
 pub one-outcome : OneOutcome
 one-outcome =
     record {
-      fresh = λ a b p q. p .is ∙ sym (q .is);
+      fresh = starts-unique;
       admit = admit-unique;
       drop = drop-unique;
       report = report-unique;

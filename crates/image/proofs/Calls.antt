@@ -31,6 +31,6 @@ load-refusal s bytes r p n e =
     ∙ load-keeps s bytes n (ap (λ (o : Outcome). o .answer) (sym (p .is)) ∙ e)
 
 -- The size that a save answers fits in 32 bits: an image has 1,290 bytes at most.
-pub saved-fits : (s : Schedule) → Good s → (before after : List ℕ) (a : Saving) (n : ℕ) → Saves s before after a → ofSaving a ≡ saved n → n < 2 ^ 32
-saved-fits s good before after a n p e =
+pub saved-fits : (s : Schedule) → Good s → (before after : List ℕ) (a : Saving) → Saves s before after a → (n : ℕ) → ofSaving a ≡ saved n → n < 2 ^ 32
+saved-fits s good before after a p n e =
     omega (arith, save-size s before n (sym (ap (λ (w : Written). w .answer) p) ∙ e), image-bounds s (good .places) .1)

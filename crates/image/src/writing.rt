@@ -24,6 +24,9 @@ pub const CONNECTION_RECORD: usize = HEADER_SIZE + CONNECTION_SIZE as usize;
 
 pub const TREE_RECORD: usize = HEADER_SIZE + TREE_SIZE as usize;
 
+// The share's numbers stand after the header and the run's six bytes.
+const SHARE_PLACE: usize = HEADER_SIZE + 6;
+
 // A record's length and kind.
 pub fn put_header(buffer: &mut [u8], at: usize, size: u32, kind: u32)
     requires { ⌜ at + headerSize ≤ length (now buffer) ⌝ }
@@ -61,5 +64,5 @@ pub fn put_connection(buffer: &mut [u8], at: usize, handle: usize, c: Connection
 {
     put_header(buffer, at, CONNECTION_SIZE, CONNECTION_KIND);
     put_run(buffer, at + HEADER_SIZE, handle, c);
-    put_share(buffer, at + 10, c);
+    put_share(buffer, at + SHARE_PLACE, c);
 }

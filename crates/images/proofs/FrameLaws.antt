@@ -165,7 +165,7 @@ framed-exactly bytes n f =
       parts = subst (λ (k : ℕ). Parts k rs) (f .counts) (form-parts (countIn rs) rs (q .1));
     }
 
--- Each record stands where it opens-with, and says where the next does.
+-- Each record stands where it begins, and says where the next does.
 module _ (bytes : List ℕ) (n : ℕ) (f : Framed bytes n) (small : AllBytes bytes) where
   framed-stands : (i : ℕ) → i < length (piecesOf bytes) → drop (begin (piecesOf bytes) i) bytes ≡ bytesOf (nth (piecesOf bytes) i) ++ joined (drop (suc i) (piecesOf bytes))
   framed-stands i l = ap (λ (b : List ℕ). drop (begin (piecesOf bytes) i) b) (sym (framed-exactly bytes n f .records)) ∙ begin-here (piecesOf bytes) i l

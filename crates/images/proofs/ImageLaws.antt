@@ -11,7 +11,7 @@ use borrow.Author.Tests.{not-false}
 use Rattle.rules.specs.declared.Connection.{Connection}
 use Rattle.rules.specs.declared.Schedule.{Schedule}
 use Rattle.rules.specs.Ownership.{handles, nobody, at, owns, taken, ownedTwice}
-use Rattle.rules.specs.Sound.{soundNumbers, allSound, apart, soundConnections, sound}
+use Rattle.rules.specs.Sound.{soundNumbers, allSound, apart, soundConnections, sound, Numbers}
 use Rattle.rules.specs.Good.{Good, FreeSlotsZero, treeFor, fresh, withConnections}
 use Rattle.rules.specs.Refusals.{number}
 use Rattle.rules.specs.Answers.{Outcome, refusing, loaded}
@@ -26,7 +26,6 @@ use Rattle.rules.specs.Load.{soundRecords, numbersUnsound, atHandles, connectio
 use Rattle.basics.proofs.BoolLaws.{both}
 use Rattle.basics.proofs.BelowLaws.{any-ext}
 use Rattle.blocks.proofs.TreeLaws.{tree-sized, tree-ext}
-use Rattle.rules.specs.Sound.{Numbers}
 use Rattle.blocks.proofs.SoundLaws.{numbers-sound, all-sound-at, connected-good}
 use Rattle.calls.proofs.RefusalLaws.{Passed, decided-cases, decided-passed}
 use Rattle.calls.proofs.EachLaws.{liveCount, count-most, each-count}

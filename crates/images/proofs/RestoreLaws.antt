@@ -17,7 +17,7 @@ use Rattle.rules.specs.Ownership.{handles, nobody, at, owns, taken}
 use Rattle.rules.specs.Classes.{runFree}
 use Rattle.blocks.specs.Taking.{setRun}
 use Rattle.rules.specs.TreeBytes.{treeOf}
-use Rattle.rules.specs.Sound.{soundNumbers, allSound, apart, soundConnections}
+use Rattle.rules.specs.Sound.{soundNumbers, allSound, apart, soundConnections, Numbers}
 use Rattle.rules.specs.Good.{treeFor}
 use Rattle.rules.specs.Admit.{isOpen}
 use Rattle.rules.specs.Records.{Piece}
@@ -26,7 +26,6 @@ use Rattle.rules.specs.Load.{allNumbersSound, rising, soundRecords, atHandles}
 use Rattle.basics.proofs.BoolLaws.{both, is-false}
 use Rattle.blocks.proofs.ClassLaws.{within-depth}
 use Rattle.blocks.proofs.EndlessTime.{minusMod-only}
-use Rattle.rules.specs.Sound.{Numbers}
 use Rattle.blocks.proofs.SoundLaws.{numbers-sound, Sound, sound-exactly, all-sound-of}
 use Rattle.blocks.proofs.ScheduleLaws.{nobody-owns, at-same, at-other, others, others-at, sound-set, live-runs, dead-runs, longer-tree}
 use Rattle.calls.proofs.AdmitLaws.{RunFreeEver, open-ever, open-nobody}

@@ -13,8 +13,7 @@ use Rattle.rules.specs.Bytes.{same}
 use Rattle.rules.specs.Split.{before}
 use Rattle.rules.specs.Text.{text}
 use Rattle.rules.specs.Commands.{isForm, named, says}
-use Rattle.texts.specs.Row.{mostNumbers}
-use Rattle.texts.specs.Row.{IsRow}
+use Rattle.texts.specs.Row.{mostNumbers, IsRow}
 use Rattle.basics.proofs.BoolLaws.{and-true, both, is-false}
 use Rattle.texts.proofs.SplitLaws.{before-take}
 use Rattle.texts.proofs.CommandLaws.{says-row, says-no-row}

@@ -1,2 +1,2 @@
--- What the rule that moves a meter promises.
+-- What a moved meter is.
 pub mod Moved

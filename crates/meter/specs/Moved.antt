@@ -1,4 +1,4 @@
--- What the rule that moves a meter promises.
+-- What a moved meter is, and the most µs of a run.
 use Prim.Native.Nat.{ℕ, _*_}
 use Rattle.rules.specs.declared.Meter.{Meter}
 use Rattle.rules.specs.Time.{blockMicros, listBlocks}

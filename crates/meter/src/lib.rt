@@ -1,9 +1,8 @@
 //! The rule that moves a meter, on numbers.
 ghost use mathlib.Core.Path.{_≡_};
 ghost use Prim.Native.Nat.{_≤_};
-ghost use Rattle.meter.specs.Moved.{listMicros};
+ghost use Rattle.meter.specs.Moved.{listMicros, movedMeter};
 ghost use Rattle.rules.specs.Meter.{moved as movedRule, need as needRule, target as targetRule};
-ghost use Rattle.meter.specs.Moved.{movedMeter};
 use rules::BLOCK_MICROS;
 use rules::GUARD_MICROS;
 use rules::Meter;

@@ -19,6 +19,11 @@ use text::read_row;
 // The largest buffer of a save, in bytes: mostBuffer of specs/Orders.
 const MOST_BUFFER: u32 = 2048;
 
+// The places after `save` and after `load` and its space: the words' lengths.
+const AFTER_SAVE: usize = 4;
+
+const AFTER_LOAD: usize = 5;
+
 /// What a line asks for; the bytes of a load are in the lent buffer, so many of them.
 pub enum Order {
     Command(Command),
@@ -32,11 +37,11 @@ pub enum Order {
 
 // A save by itself, or into a buffer of so many bytes.
 fn save_of(line: &[u8]) -> Order
-    requires { ⌜ same (take 4 (now line)) (textOf "save") ≡ true ⌝ }
+    requires { ⌜ same (take (length (textOf "save")) (now line)) (textOf "save") ≡ true ⌝ }
     ensures { λ r. ⌜ AsksSave (now (line .entry)) r ⌝ }
 {
     let mut sizes = [0u32; 1];
-    let read = read_row(line, 4, &mut sizes);
+    let read = read_row(line, AFTER_SAVE, &mut sizes);
     let Row::Count(count) = read else {
         return Order::Bad;
     };
@@ -52,10 +57,10 @@ fn save_of(line: &[u8]) -> Order
 
 // A load of bytes in hexadecimal.
 fn load_of(line: &[u8], bytes: &mut [u8]) -> Order
-    requires { ⌜ (same (take 5 (now line)) (textOf "load ") ≡ true) × (length (now line) ≤ 2 * length (now bytes)) ⌝ }
+    requires { ⌜ (same (take (length (textOf "load ")) (now line)) (textOf "load ") ≡ true) × (length (now line) ≤ 2 * length (now bytes)) ⌝ }
     ensures { λ r. ⌜ Asks (now (line .entry)) (now (bytes .exit)) r ⌝ }
 {
-    let read = read_hex(line, 5, bytes);
+    let read = read_hex(line, AFTER_LOAD, bytes);
     let Hex::Bytes(n) = read else {
         return Order::Bad;
     };

@@ -1,7 +1,7 @@
 -- Bytes parted at each separator.
 use Prim.Native.Nat.{ℕ}
 use mathlib.Core.Bool.{cond}
-use mathlib.Core.List.{List, [], _∷_, _++_}
+use mathlib.Core.List.{List, [], _∷_}
 use lib.Dec.{eqb}
 
 -- What ends in a separator, piece by piece without it, and the tail after the last one.

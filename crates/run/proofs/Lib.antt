@@ -1,4 +1,5 @@
--- What the proofs of several functions use.
+-- What the proofs of several functions use, and the law of the promise.
 mod Numbers
 mod Runs
 mod Free
+pub mod Calls

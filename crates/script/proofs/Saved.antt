@@ -20,13 +20,11 @@ use Rattle.calls.proofs.RefusalLaws.{decided-cases}
 use Rattle.images.proofs.SaveLaws.{save-whole, save-size}
 use Rattle.images.proofs.ImageLaws.{image-bounds}
 use Rattle.image.specs.Promises.{Saves}
-use Rattle.image.proofs.Calls.{saved-fits}
 use Rattle.text.specs.Promises.{Puts}
 use Rattle.text.proofs.Putting.{puts-after, puts-as}
 use Rattle.hex.specs.Hex.{hex}
 use Rattle.script.specs.Performing.{imageLine, savedLine, blank, bufferWords}
 use Rattle.state.specs.State.{newline}
-use Rattle.answer.specs.Promises.{SizeFits}
 use Rattle.hex.proofs.HexLaws.{hex-length}
 
 -- The image is the first n bytes.
@@ -70,11 +68,6 @@ unfolding imageLine
 image-line s e p q r = puts-after (puts-after p (puts-as (ap hex e) q)) r
 
 -- ---- a save into a blank buffer
--- Its size can be printed.
-pub size-fits : (s : Schedule) → Good s → (entry exit : List ℕ) (a : Saving) → Saves s entry exit a → SizeFits a
-size-fits s good entry exit (Size n) p = saved-fits s good entry exit (Size n) n p refl
-size-fits s good entry exit (Refused r) p = tt
-
 -- The answer's words, the buffer, the end of the line.
 pub saved-line : {l b c d : List ℕ} {i j k : ℕ} (s : Schedule) (entry exit : List ℕ) (a : Saving) (n : ℕ) → entry ≡ blank n → Saves s entry exit a
     → Puts l 0 (wordsOf (ofSaving a)) b i → Puts b i (bufferWords exit) c j → Puts c j newline d k → Puts l 0 (savedLine s n) d k

@@ -4,8 +4,8 @@ use mathlib.Core.List.{List}
 use Rattle.rules.specs.declared.Connection.{Connection}
 use Rattle.rules.specs.Ownership.{handles}
 use Rattle.text.specs.Promises.{PutsWithin}
-use Rattle.state.specs.State.{stateLines}
+use Rattle.state.specs.State.{longestLine, stateLines}
 
 -- The state's lines, from the start.
 abbrev pub PutsState : List Connection → List ℕ → List ℕ → ℕ → Type 0
-PutsState cs entry exit next = PutsWithin (48 * handles) entry 0 (stateLines 0 cs) exit next
+PutsState cs entry exit next = PutsWithin (longestLine * handles) entry 0 (stateLines 0 cs) exit next

@@ -16,6 +16,10 @@ unfoldable pub connectionLine : ℕ → Connection → List ℕ
 unfolding decimal spaced
 connectionLine h c = decimal h ++ spaced (c .k ∷ c .anchor ∷ c .length ∷ c .floor ∷ c .ceiling ∷ c .estimate ∷ []) ++ newline
 
+-- It has so many bytes at most.
+abbrev pub longestLine : ℕ
+longestLine = 48
+
 -- "for each live connection by rising handle", from handle h on
 unfoldable pub stateLines : ℕ → List Connection → List ℕ
 unfolding connectionLine eachLive flatten

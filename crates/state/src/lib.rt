@@ -7,7 +7,7 @@ ghost use Rattle.rules.specs.Decimal.{decimal};
 ghost use Rattle.rules.specs.Words.{spaced};
 ghost use Rattle.rules.specs.Ownership.{handles};
 ghost use Rattle.text.specs.Promises.{PutsWithin};
-ghost use Rattle.state.specs.State.{newline, connectionLine};
+ghost use Rattle.state.specs.State.{newline, connectionLine, longestLine};
 ghost use Rattle.state.specs.Promises.{PutsState};
 use rules::Connection;
 use rules::HANDLES;
@@ -39,8 +39,8 @@ fn put_share(out: &mut [u8], at: usize, c: Connection) -> usize
 
 // The line of a live connection.
 fn put_connection(out: &mut [u8], at: usize, handle: u8, c: Connection) -> usize
-    requires { ⌜ at + 48 ≤ length (now out) ⌝ }
-    ensures { λ r. ⌜ PutsWithin 48 (now (out .entry)) at (connectionLine handle c) (now (out .exit)) r ⌝ }
+    requires { ⌜ at + longestLine ≤ length (now out) ⌝ }
+    ensures { λ r. ⌜ PutsWithin longestLine (now (out .entry)) at (connectionLine handle c) (now (out .exit)) r ⌝ }
 {
     let a = put_run(out, at, handle, c);
     put_share(out, a, c)
@@ -48,7 +48,7 @@ fn put_connection(out: &mut [u8], at: usize, handle: u8, c: Connection) -> usize
 
 /// The lines of the live connections, handles rising.
 pub fn put_state(out: &mut [u8], connections: [Connection; HANDLES]) -> usize
-    requires { ⌜ (length connections ≡ handles) × (48 * handles ≤ length (now out)) ⌝ }
+    requires { ⌜ (length connections ≡ handles) × (longestLine * handles ≤ length (now out)) ⌝ }
     ensures { λ r. ⌜ PutsState connections (now (out .entry)) (now (out .exit)) r ⌝ }
 {
     let mut next: usize = 0;

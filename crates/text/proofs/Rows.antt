@@ -7,9 +7,8 @@ use native.Mathlib.Numerals.{add-one}
 use native.Mathlib.Omega.{arith}
 use lib.ListN.{length, getD, take, drop, set, length-drop, length-set, length-append, drop-of-length-le}
 use lib.Seq.{drop-cons, drop-drop, drop-set-lt, length-take-le, take-suc-set}
-use Rattle.texts.specs.Row.{numberIn}
+use Rattle.texts.specs.Row.{numberIn, IsRow}
 use Rattle.rules.specs.Split.{before}
-use Rattle.texts.specs.Row.{IsRow}
 use Rattle.texts.proofs.SplitLaws.{before-take, before-le}
 use Rattle.texts.proofs.RowLaws.{First, row-nothing, row-longer, row-first}
 use Rattle.text.specs.declared.Row.the-variants.{Count, Wrong}

@@ -18,8 +18,7 @@ use Rattle.rules.specs.Decimal.{decimal}
 use Rattle.rules.specs.Split.{parted, before}
 use Rattle.rules.specs.Words.{spaced}
 use Rattle.rules.specs.Commands.{wordOf, numbersOf, lineOf, allFit, isForm, named, fieldsNamed, guess, confirmed, says}
-use Rattle.texts.specs.Row.{mostNumbers}
-use Rattle.texts.specs.Row.{IsRow}
+use Rattle.texts.specs.Row.{mostNumbers, IsRow}
 use Rattle.basics.proofs.BoolLaws.{both}
 use Rattle.basics.proofs.BytesLaws.{same-exactly}
 use Rattle.texts.proofs.SplitLaws.{Without, split-piece, split-none, before-without, before-take}

@@ -11,11 +11,10 @@ use lib.Seq.{drop-append-seam}
 use borrow.Author.Tests.{ltb-true, lt-ltb}
 use Rattle.rules.specs.Text.{byte}
 use Rattle.rules.specs.Decimal.{decimal, value, fits}
-use Rattle.texts.specs.Row.{numberIn}
+use Rattle.texts.specs.Row.{numberIn, IsRow}
 use Rattle.rules.specs.Split.{parted, before}
 use Rattle.rules.specs.Words.{spaced}
 use Rattle.rules.specs.Commands.{allFit}
-use Rattle.texts.specs.Row.{IsRow}
 use Rattle.basics.proofs.BoolLaws.{both}
 use Rattle.texts.proofs.SplitLaws.{Without, split-piece, split-none, before-take, before-of, before-of-all}
 use Rattle.texts.proofs.DecimalLaws.{value-decimal, decimal-digits, number-digits, number-only}

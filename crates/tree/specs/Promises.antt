@@ -9,8 +9,7 @@ use Rattle.rules.specs.Classes.{depth, free, inClass}
 use Rattle.blocks.specs.Taking.{withClass, withoutClass}
 use Rattle.rules.specs.Mirror.{mirrored}
 use Rattle.rules.specs.TreeBytes.{treeOf, bitAt}
-use Rattle.blocks.specs.Children.{Sized}
-use Rattle.blocks.specs.Children.{OrOfChildren}
+use Rattle.blocks.specs.Children.{Sized, OrOfChildren}
 use Rattle.tree.specs.Under.{under}
 
 pub record Mirrored (k p r : ℕ) : Type 0 where

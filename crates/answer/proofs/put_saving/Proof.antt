@@ -1,11 +1,10 @@
 -- `answer::put_saving` meets its contract: the word and the number, or the refusal.
 use borrow.Author.Needs.{needs}
-use mathlib.Core.Path.{sym, ap, subst}
+use mathlib.Core.Path.{sym, ap}
 use native.Mathlib.Omega.{arith}
 use Rattle.rules.specs.Answers.{ofSaving}
 use Rattle.rules.specs.Words.{wordsOf}
 use Rattle.text.proofs.Putting.{puts-length}
-use Rattle.answer.specs.Promises.{SizeFits}
 use Rattle.answer.proofs.Words.{words-as}
 use Rattle.answer.proofs.put_saving.Statement.{statement}
 use Rattle.answer.proofs.put_saving.Tie as tie
@@ -18,8 +17,7 @@ slice-aggregate-put-count c = search needs
 
 cast-put-count : tie.Need-cast-put-count
 cast-put-count c =
-    let f = subst SizeFits (c .before .before .before .answer .given .1) (c .before .before .before .before .before .before .pre .0) in
-    omega (arith, f)
+    omega (arith, c .before .before .before .before .before .before .pre .0 _ (ap ofSaving (c .before .before .before .answer .given .1)))
 
 put-count-requires : tie.Need-put-count-requires
 put-count-requires c κs = omega (arith, c .before .before .before .before .before .before .pre .1)

@@ -1,21 +1,8 @@
 -- `bench::saved` says a size that can be printed.
 use borrow.Author.Needs.{needs}
-use mathlib.Core.Path.{refl}
-use mathlib.Core.List.{List}
-use Prim.Native.Nat.{ℕ}
-use Rattle.rules.specs.declared.Schedule.{Schedule}
-use Rattle.rules.specs.declared.Saving.{Saving}
-use Rattle.rules.specs.declared.Saving.the-variants.{Size, Refused}
-use Rattle.rules.specs.Good.{Good}
-use Rattle.image.specs.Promises.{Saves}
 use Rattle.image.proofs.Calls.{saved-fits}
-use Rattle.answer.specs.Promises.{SizeFits}
 use Rattle.bench.proofs.saved.Statement.{statement}
 use Rattle.bench.proofs.saved.Tie as tie
-
-fits : (s : Schedule) → Good s → (before after : List ℕ) (a : Saving) → Saves s before after a → SizeFits a
-fits s good before after (Size n) p = saved-fits s good before after (Size n) n p refl
-fits s good before after (Refused r) p = tt
 
 mark-requires : tie.Need-mark-requires
 mark-requires c κs = search needs
@@ -27,7 +14,10 @@ mark-requires-2 : tie.Need-mark-requires-2
 mark-requires-2 c κs = search needs
 
 tell-saving-requires : tie.Need-tell-saving-requires
-tell-saving-requires c κs = fits (c .before .before .before .before .before .before .before .args .s) (c .before .before .before .before .before .before .before .pre) _ _ (c .before .before .before .save .result) (c .before .before .before .save .ensures)
+tell-saving-requires c κs =
+    let done = c .before .before .before in
+    let start = done .before .before .before .before in
+    saved-fits (start .args .s) (start .pre) _ _ (done .save .result) (done .save .ensures)
 
 same-length : tie.Need-same-length
 same-length c = search needs

@@ -43,8 +43,7 @@ use denote.Triple.Spec.{Meets, tripleOf}
 use denote.Triple.Table.{entered, cited}
 use denote.Triple.Walked.{says, needs, Stays, stay-none, walkOf, AllGo, goes-none, Walks, ends-at, walked, walk-meets}
 use denote.Exit.{yes}
-use Rattle.meter.specs.Moved.{listMicros}
-use Rattle.meter.specs.Moved.{movedMeter}
+use Rattle.meter.specs.Moved.{listMicros, movedMeter}
 use Rattle.rules.specs.declared.Meter.{Meter}
 use Rattle.rules.proofs.Meter as T
 use Rattle.rules.proofs.Meter.Laws as T′

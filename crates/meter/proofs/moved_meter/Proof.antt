@@ -2,10 +2,9 @@
 use borrow.Author.Needs.{needs}
 use mathlib.Core.Path.{ap, ap₂, _∙_}
 use Prim.Native.Nat.{ℕ}
-use Rattle.meter.specs.Moved.{listMicros}
+use Rattle.meter.specs.Moved.{listMicros, movedMeter}
 use Rattle.rules.specs.declared.Meter.{Meter}
 use Rattle.rules.specs.Meter.{need, target}
-use Rattle.meter.specs.Moved.{movedMeter}
 use Rattle.calls.proofs.MeterLaws.{moved-most}
 use Rattle.meter.proofs.moved_meter.Statement.{statement}
 use Rattle.meter.proofs.moved_meter.Tie as tie

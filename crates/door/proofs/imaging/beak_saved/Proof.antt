@@ -17,7 +17,7 @@ cast-saved : tie.Need-cast-saved
 cast-saved c =
     let start = c .before .before .before .before .before .before .before .before in
     let done = c .before .before .before .before .before .save in
-    record { fits = saved-fits (start .args .s) (start .pre) (start .args .buffer .now) (done .last .1 .0) (done .result) (c .before .answer .given .0 .0) (done .ensures) (ap ofSaving (c .before .answer .given .1)) }
+    record { fits = saved-fits (start .args .s) (start .pre) (start .args .buffer .now) (done .last .1 .0) (done .result) (done .ensures) (c .before .answer .given .0 .0) (ap ofSaving (c .before .answer .given .1)) }
 
 saved-requires : tie.Need-saved-requires
 saved-requires c κs = search needs

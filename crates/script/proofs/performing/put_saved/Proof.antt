@@ -2,7 +2,8 @@
 use borrow.Author.Needs.{needs}
 use native.Mathlib.Omega.{arith}
 use lib.ListN.{length}
-use Rattle.script.proofs.Saved.{size-fits, saved-line, save-length, blank-size}
+use Rattle.image.proofs.Calls.{saved-fits}
+use Rattle.script.proofs.Saved.{saved-line, save-length, blank-size}
 use Rattle.script.proofs.performing.put_saved.Statement.{statement}
 use Rattle.script.proofs.performing.put_saved.Tie as tie
 
@@ -13,7 +14,7 @@ save-requires : tie.Need-save-requires
 save-requires c κs = search needs
 
 put-saving-requires : tie.Need-put-saving-requires
-put-saving-requires c κs = (size-fits (c .before .before .before .before .before .before .before .before .before .before .before .args .s) (c .before .before .before .before .before .before .before .before .before .before .before .pre .0) (c .before .before .before .before .before .before .before .blank .last .0) (c .before .before .before .save .last .1 .0) (c .before .before .before .save .result) (c .before .before .before .save .ensures), omega (arith, c .before .before .before .before .before .before .before .before .before .before .before .pre .1))
+put-saving-requires c κs = (saved-fits (c .before .before .before .before .before .before .before .before .before .before .before .args .s) (c .before .before .before .before .before .before .before .before .before .before .before .pre .0) (c .before .before .before .before .before .before .before .blank .last .0) (c .before .before .before .save .last .1 .0) (c .before .before .before .save .result) (c .before .before .before .save .ensures), omega (arith, c .before .before .before .before .before .before .before .before .before .before .before .pre .1))
 
 put-buffer-requires : tie.Need-put-buffer-requires
 put-buffer-requires c κs = search needs
