@@ -5,7 +5,6 @@ use mathlib.Core.Bool.{false}
 use mathlib.Core.Logic.{by-cases}
 use Prim.Native.Nat.{ℕ, _-_, _≤_, _<_}
 use native.Mathlib.Decide.{ℕ-discrete}
-use native.Mathlib.Nat.{mod-lt}
 use native.Mathlib.Omega.{arith}
 use Rattle.rules.specs.Ownership.{owns, taken}
 use Rattle.rules.specs.Handles.{connection}
@@ -27,7 +26,7 @@ rem-is-free : tie.Need-rem-is-free Inv-loop μ-loop
 rem-is-free c = search needs
 
 is-free-requires : tie.Need-is-free-requires Inv-loop μ-loop
-is-free-requires c κs = (search needs, mod-lt _ (omega arith), (taken (c .before .before .args .t1 .connections), good-tree (c .before .before .args .t1) (c .before .before .pre)))
+is-free-requires c κs = (search needs, omega arith, (taken (c .before .before .args .t1 .connections), good-tree (c .before .before .args .t1) (c .before .before .pre)))
 
 returns : tie.Need-returns Inv-loop μ-loop
 returns c =
