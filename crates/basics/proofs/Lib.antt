@@ -3,3 +3,4 @@ pub mod BoolLaws
 pub mod BelowLaws
 pub mod BytesLaws
 pub mod StoreLaws
+pub mod LentLaws

@@ -1,18 +1,20 @@
 -- Each case of an enum has an answer of its own: what is answered says which case it was.
 use mathlib.Core.Path.{_≡_, refl, sym, ap, _∙_}
 use mathlib.Core.Bool.{cond}
-use Prim.Native.Nat.{ℕ}
+use Prim.Native.Nat.{ℕ, _<_}
 use mathlib.Core.List.{List, [], _∷_}
-use lib.Dec.{eqb}
+use lib.Dec.{eqb, lit<}
 use lib.ListN.{getD}
 use Rattle.rules.specs.declared.Refusal.{Refusal}
-use Rattle.rules.specs.declared.Refusal.the-variants.{HandleAbove63, HandleLive, HandleNotLive, IntervalOutside, ShareWrong, NoOpenAnchor, SampleAboveRun, BufferShort, RecordsWrong, NumbersUnsound, BlockOwnedTwice, TreeDiffers}
+use Rattle.rules.specs.declared.Refusal.the-variants.{HandleAbove63, HandleLive, HandleNotLive, IntervalOutside, ShareWrong, NoOpenAnchor, SampleAboveRun, BufferShort, RecordsWrong, NumbersUnsound, BlockOwnedTwice, TreeDiffers, ReportsMany, ListShort}
 use Rattle.rules.specs.declared.Admission.{Admission}
 use Rattle.rules.specs.declared.Admission.the-variants.{Placed, Refused as AdmissionRefused}
 use Rattle.rules.specs.declared.Dropping.{Dropping}
 use Rattle.rules.specs.declared.Dropping.the-variants.{Done, Refused as DroppingRefused}
 use Rattle.rules.specs.declared.Reporting.{Reporting}
 use Rattle.rules.specs.declared.Reporting.the-variants.{Kept, Grown, Shrunk, Tight, Refused as ReportingRefused}
+use Rattle.rules.specs.declared.ReportingAll.{ReportingAll}
+use Rattle.rules.specs.declared.ReportingAll.the-variants.{Answered, Refused as ReportingAllRefused}
 use Rattle.rules.specs.declared.Ownership.{Ownership}
 use Rattle.rules.specs.declared.Ownership.the-variants.{Handle, Idle}
 use Rattle.rules.specs.declared.Distance.{Distance}
@@ -24,15 +26,16 @@ use Rattle.rules.specs.declared.Loading.the-variants.{Count, Refused as Loading
 use Rattle.rules.specs.declared.Admitted.{Admitted}
 use Rattle.rules.specs.declared.Dropped.{Dropped}
 use Rattle.rules.specs.declared.Reported.{Reported}
+use Rattle.rules.specs.declared.ReportedAll.{ReportedAll}
 use Rattle.rules.specs.declared.Loaded.{Loaded}
 use Rattle.rules.specs.Refusals.{number}
-use Rattle.rules.specs.Answers.{Answer, Outcome, refused, ok, dropped, kept, grown, shrunk, tight, owner, idle, slots, saved, loaded, ofAdmission, ofDropping, ofReporting, ofOwnership, ofDistance, ofSaving, ofLoading, ofAdmitted, ofDropped, ofReported, ofLoaded}
+use Rattle.rules.specs.Answers.{Answer, Outcome, Listed, refused, ok, dropped, kept, grown, shrunk, tight, owner, idle, slots, saved, loaded, reported, ofAdmission, ofDropping, ofReporting, ofReportingAll, ofOwnership, ofDistance, ofSaving, ofLoading, ofAdmitted, ofDropped, ofReported, ofReportedAll, ofLoaded}
 
 -- A function that can be undone takes no two values to one.
 undone : {A B : Type 0} (f : A → B) (g : B → A) → ((a : A) → g (f a) ≡ a) → {a b : A} → f a ≡ f b → a ≡ b
 undone f g back {a} {b} e = sym (back a) ∙ ap g e ∙ back b
 
--- ---- the refusals: twelve numbers for twelve cases
+-- ---- the refusals: a number for each case
 -- The refusal with a number, by going through the others.
 refusalOf : ℕ → Refusal
 refusalOf n =
@@ -40,7 +43,8 @@ refusalOf n =
     or HandleAbove63 (or HandleLive (or HandleNotLive
     (or IntervalOutside (or ShareWrong (or NoOpenAnchor
     (or SampleAboveRun (or BufferShort (or RecordsWrong
-    (or NumbersUnsound (or BlockOwnedTwice TreeDiffers))))))))))
+    (or NumbersUnsound (or BlockOwnedTwice (or TreeDiffers
+    (or ReportsMany ListShort))))))))))))
 
 refusal-back : (r : Refusal) → refusalOf (number r) ≡ r
 unfolding refusalOf
@@ -56,9 +60,28 @@ refusal-back RecordsWrong = refl
 refusal-back NumbersUnsound = refl
 refusal-back BlockOwnedTwice = refl
 refusal-back TreeDiffers = refl
+refusal-back ReportsMany = refl
+refusal-back ListShort = refl
 
 pub number-injective : (a b : Refusal) → number a ≡ number b → a ≡ b
 number-injective a b e = undone number refusalOf refusal-back e
+
+-- None is large.
+pub number-small : (r : Refusal) → number r < 65536
+number-small HandleAbove63 = lit< tt
+number-small HandleLive = lit< tt
+number-small HandleNotLive = lit< tt
+number-small IntervalOutside = lit< tt
+number-small ShareWrong = lit< tt
+number-small NoOpenAnchor = lit< tt
+number-small SampleAboveRun = lit< tt
+number-small BufferShort = lit< tt
+number-small RecordsWrong = lit< tt
+number-small NumbersUnsound = lit< tt
+number-small BlockOwnedTwice = lit< tt
+number-small TreeDiffers = lit< tt
+number-small ReportsMany = lit< tt
+number-small ListShort = lit< tt
 
 -- ---- the answers: a number for each of the sheet's words, and the values beside it
 word : Answer → ℕ
@@ -74,6 +97,7 @@ word idle = 8
 word (slots n) = 9
 word (saved n) = 10
 word (loaded n) = 11
+word (reported n) = 12
 
 unfoldable pub values : Answer → List ℕ
 values (refused n) = n ∷ []
@@ -88,6 +112,7 @@ values idle = []
 values (slots n) = n ∷ []
 values (saved n) = n ∷ []
 values (loaded n) = n ∷ []
+values (reported n) = n ∷ []
 
 value : Answer → ℕ → ℕ
 unfolding values
@@ -128,6 +153,15 @@ reporting-back (Grown L) = refl
 reporting-back (Shrunk L) = refl
 reporting-back (Tight L) = refl
 reporting-back (ReportingRefused r) = ap ReportingRefused (refusal-back r)
+
+reportingAllOf : Answer → ReportingAll
+unfolding word value refusalOf
+reportingAllOf a = by-word a (ReportingAllRefused (refusalOf (value a 0))) (Answered (value a 0))
+
+reporting-all-back : (a : ReportingAll) → reportingAllOf (ofReportingAll a) ≡ a
+unfolding reportingAllOf
+reporting-all-back (Answered n) = refl
+reporting-all-back (ReportingAllRefused r) = ap ReportingAllRefused (refusal-back r)
 
 ownershipOf : Answer → Ownership
 unfolding word value
@@ -192,6 +226,16 @@ pub reported-injective : (a b : Reported) → ofReported a ≡ ofReported b → 
 reported-injective a b e =
     undone ofReported (λ (o : Outcome). record { answer = reportingOf (o .answer); schedule = o .schedule })
     (λ r. ap (λ (x : Reporting). record { answer = x; schedule = r .schedule }) (reporting-back (r .answer))) e
+
+-- With the list that it filled.
+pub reported-all-injective : (a b : ReportedAll) (x y : List ℕ) → ofReportedAll a x ≡ ofReportedAll b y → (a ≡ b) × (x ≡ y)
+reported-all-injective a b x y e = (sym (back a x) ∙ ap read e ∙ back b y, ap (λ (o : Listed). o .list) e)
+  where
+    read : Listed → ReportedAll
+    read o = record { answer = reportingAllOf (o .answer); schedule = o .schedule }
+
+    back : (r : ReportedAll) (l : List ℕ) → read (ofReportedAll r l) ≡ r
+    back r l = ap (λ (z : ReportingAll). record { answer = z; schedule = r .schedule }) (reporting-all-back (r .answer))
 
 pub loaded-injective : (a b : Loaded) → ofLoaded a ≡ ofLoaded b → a ≡ b
 loaded-injective a b e =

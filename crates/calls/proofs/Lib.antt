@@ -10,3 +10,5 @@ pub mod RoomLaws
 pub mod LiveLaws
 pub mod EachLaws
 pub mod CallLaws
+pub mod ReportsLaws
+pub mod AloneLaws

@@ -52,6 +52,19 @@ decided-map g (c ∷ cs) refuse done = go (c .refuses) (decided-map g cs refuse 
     go true later = refl
     go false later = later
 
+-- Two things that are decided by the same checks, put together.
+pub decided-both : {A B C : Type 0} (f : A → B → C) (cs : List Check) (refuse : ℕ → A) (done : A) (refuse′ : ℕ → B) (done′ : B) (refused″ : ℕ → C) (done″ : C)
+    → ((m : ℕ) → f (refuse m) (refuse′ m) ≡ refused″ m) → f done done′ ≡ done″
+    → f (decided cs refuse done) (decided cs refuse′ done′) ≡ decided cs refused″ done″
+unfolding decided
+decided-both f [] refuse done refuse′ done′ refused″ done″ p q = q
+decided-both f (c ∷ cs) refuse done refuse′ done′ refused″ done″ p q = go (c .refuses) (decided-both f cs refuse done refuse′ done′ refused″ done″ p q)
+  where
+    go : (v : Bool) → f (decided cs refuse done) (decided cs refuse′ done′) ≡ decided cs refused″ done″
+        → f (cond v (refuse (number (c .why))) (decided cs refuse done)) (cond v (refuse′ (number (c .why))) (decided cs refuse′ done′)) ≡ cond v (refused″ (number (c .why))) (decided cs refused″ done″)
+    go true later = p (number (c .why))
+    go false later = later
+
 -- "A refusal returns its number only; the schedule .. as .. before the call": of every call that answers with a schedule.
 pub refusal-keeps : (cs : List Check) (s : Schedule) (done : Outcome) → ((n : ℕ) → done .answer ≡ refused n → ⊥)
     → (n : ℕ) → decided cs (refusing s) done .answer ≡ refused n → decided cs (refusing s) done .schedule ≡ s

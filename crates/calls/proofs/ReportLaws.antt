@@ -2,7 +2,7 @@
 use mathlib.Core.Path.{_≡_, refl, sym, ap, _∙_}
 use mathlib.Core.Bool.{Bool, true, false, not, _&&_, false≢true}
 use mathlib.Core.List.{[], _∷_}
-use mathlib.Core.Logic.{_≢_, by-cases, _↔_, inl, inr}
+use mathlib.Core.Logic.{_≢_, by-cases, _↔_, _⊎_, inl, inr}
 use Prim.Native.Nat.{ℕ, _+_, _-_, _*_, _%_, _<_, _≤_}
 use native.Mathlib.Nat.{mod-lt}
 use native.Mathlib.Decide.{ℕ-discrete}
@@ -12,6 +12,7 @@ use lib.Dec.{ltb}
 use borrow.Author.Tests.{lt-ltb, le-ltb, ltb-true, ltb-false, not-false}
 use Rattle.rules.specs.declared.Connection.{Connection}
 use Rattle.rules.specs.declared.Schedule.{Schedule}
+use Rattle.rules.specs.declared.Refusal.{Refusal}
 use Rattle.rules.specs.declared.Refusal.the-variants.{HandleAbove63, HandleNotLive, SampleAboveRun}
 use Rattle.rules.specs.Time.{blockMicros, minusMod}
 use Rattle.rules.specs.Ownership.{factor, at, belongs, owns, taken}
@@ -54,15 +55,19 @@ module _ (s : Schedule) (h sample : ℕ) where
       report-ok l = decided-passed (reportChecks s h sample) (refusing s) (reportDone s h sample) (le-ltb 63 h p, (ap not q, (le-ltb (connection s h .length * 7500) sample l, tt)))
 
 -- ---- a report that is carried out
+-- A connection with another length and another estimate, and nothing else of it changed.
+abbrev pub Metered : Connection → Connection → Type 0
+Metered before after = (length : ℕ) × (estimate : ℕ) × (after ≡ metered before length estimate)
+
 pub record Reportable (s : Schedule) (h sample : ℕ) : Type 0 where
   pub handle : h ≤ 63
   pub live : isLive s h ≡ true
   pub used : sample ≤ connection s h .length * blockMicros
 
-pub report-cases {ℓ} : (s : Schedule) (h sample : ℕ) (P : Outcome → Type ℓ) → ((n : ℕ) → P (refusing s n)) → (Reportable s h sample → P (reportDone s h sample)) → P (report s h sample)
+pub report-cases {ℓ} : (s : Schedule) (h sample : ℕ) (P : Outcome → Type ℓ) → ((why : Refusal) → P (refusing s (number why))) → (Reportable s h sample → P (reportDone s h sample)) → P (report s h sample)
 unfolding report
 report-cases s h sample P f g =
-    decided-cases P (reportChecks s h sample) (refusing s) (reportDone s h sample) (λ why. f (number why))
+    decided-cases P (reportChecks s h sample) (refusing s) (reportDone s h sample) f
     (λ p. g (record { handle = ltb-false 63 h (p .0); live = not-false (isLive s h) (p .1 .0); used = ltb-false _ sample (p .1 .1 .0) }))
 
 -- Room to grow: in a sound schedule no block of the class of (A + L) mod F, in endless time, belongs to a live connection.
@@ -151,6 +156,17 @@ module _ (s : Schedule) (good : Good s) (h sample : ℕ) where
   pub report-others : (j : ℕ) → j ≢ h → connection (report s h sample .schedule) j ≡ connection s j
   unfolding reportDone
   report-others j n = report-cases s h sample (λ o. connection (o .schedule) j ≡ connection s j) (λ m. refl) (λ r. set-other s good h (r .handle) (new s good h sample r) j n)
+
+  -- So a connection is as it was, or it is that of the report, and has another length and another estimate.
+  pub report-own : (j : ℕ) → (connection (report s h sample .schedule) j ≡ connection s j) ⊎ ((j ≡ h) × Metered (connection s j) (connection (report s h sample .schedule) j))
+  unfolding reportDone
+  report-own j =
+      by-cases (ℕ-discrete j h)
+      (λ q.
+      report-cases s h sample (λ o. (connection (o .schedule) j ≡ connection s j) ⊎ ((j ≡ h) × Metered (connection s j) (connection (o .schedule) j)))
+      (λ why. inl refl)
+      (λ r. let c = new s good h sample r in inr (q, (c .length, c .estimate, rw q (set-same s good h (r .handle) c)))))
+      (λ q. inl (report-others j q))
 
   -- Where it is carried out, the connection has the new length and the new estimate, and nothing else of it changes;
   pub report-stored : (r : Reportable s h sample) → connection (report s h sample .schedule) h ≡ new s good h sample r

@@ -11,7 +11,7 @@ use Rattle.rules.specs.declared.Command.the-variants.{Admit, Drop, Report, Owne
 use Rattle.rules.specs.declared.Line.{Line}
 use Rattle.rules.specs.declared.Line.the-variants.{Says, Bad}
 use Rattle.rules.specs.Good.{Good, fresh}
-use Rattle.rules.specs.Answers.{Answer, refused, ok, dropped, kept, grown, shrunk, tight, owner, idle, slots, saved, loaded}
+use Rattle.rules.specs.Answers.{Answer, refused, ok, dropped, kept, grown, shrunk, tight, owner, idle, slots, saved, loaded, reported}
 use Rattle.rules.specs.Obey.{obey}
 use Rattle.rules.specs.Text.{byte, text}
 use Rattle.rules.specs.Decimal.{decimal}
@@ -109,6 +109,7 @@ words-without idle = worded (text "idle") [] refl
 words-without (slots n) = worded (text "slots") (n ∷ []) refl
 words-without (saved n) = worded (text "saved") (n ∷ []) refl
 words-without (loaded n) = worded (text "loaded") (n ∷ []) refl
+words-without (reported n) = worded (text "reported") (n ∷ []) refl
 
 -- and neither has what a line prints.
 pub carried-out-without : (s : Schedule) (l : Line) → Without (byte "\n") (carriedOut s l .words)

@@ -14,6 +14,7 @@ use Rattle.rules.specs.declared.Refusal.the-variants.{BufferShort}
 use Rattle.rules.specs.Ownership.{at}
 use Rattle.rules.specs.Refusals.{number}
 use Rattle.rules.specs.Answers.{refused, saved}
+use Rattle.rules.specs.Lent.{over}
 use Rattle.rules.specs.Records.{bytesOf, joined}
 use Rattle.rules.specs.Image.{connectionPiece, connectionPieces, image}
 use Rattle.rules.specs.Save.{Written, saveChecks, saveDone, save}
@@ -43,7 +44,7 @@ joined-most cs h =
 
 -- ---- the exits of a save
 -- What is stored from the buffer's start, and the rest.
-from-start : (xs buffer : List ℕ) → length xs ≤ length buffer → sets buffer 0 xs ≡ xs ++ drop (length xs) buffer
+from-start : (xs buffer : List ℕ) → length xs ≤ length buffer → sets buffer 0 xs ≡ over xs buffer
 from-start xs buffer l =
     let e : 0 + length xs ≡ length xs = omega arith in
     rw e at (sets-eq xs buffer 0 (omega arith))
@@ -61,7 +62,7 @@ save-written s buffer l =
 
 -- A save of a schedule whose image is known, into a buffer that holds it.
 pub save-whole : (s : Schedule) (buffer bytes : List ℕ) → image s ≡ bytes → length bytes ≤ length buffer
-    → save s buffer ≡ record { answer = saved (length bytes); buffer = bytes ++ drop (length bytes) buffer }
+    → save s buffer ≡ record { answer = saved (length bytes); buffer = over bytes buffer }
 unfolding saveDone
 save-whole s buffer bytes e l =
     sym (save-written s buffer (omega (arith, ap (λ (x : List ℕ). length x) e)))

@@ -2,14 +2,18 @@
 use Prim.Native.Nat.{ℕ}
 use mathlib.Core.Path.{_≡_, refl}
 use mathlib.Core.Bool.{true}
+use mathlib.Core.List.{List, [], _∷_}
+use lib.ListN.{replicate}
 use Rattle.rules.specs.declared.Connection.{Connection}
 use Rattle.rules.specs.declared.Schedule.{Schedule}
+use Rattle.rules.specs.declared.Report.{Report}
 use Rattle.rules.specs.Sound.{sound}
 use Rattle.rules.specs.Good.{fresh, withConnections, withConnection}
-use Rattle.rules.specs.Answers.{refused, tight}
+use Rattle.rules.specs.Answers.{refusingList, refused, tight, reported}
 use Rattle.rules.specs.Handles.{connection}
 use Rattle.rules.specs.Admit.{admit}
 use Rattle.rules.specs.Report.{report}
+use Rattle.rules.specs.Reports.{reportAll}
 
 -- Two connections with one block in eight, side by side; the first may grow, and cannot.
 pub neighbour : ℕ → Connection
@@ -42,3 +46,44 @@ admission-in-order = (refl, refl, refl, refl, refl)
 pub report-in-order : (report neighbours 64 1 .answer ≡ refused 1) × (report neighbours 2 1 .answer ≡ refused 3) × (report neighbours 0 7501 .answer ≡ refused 7)
 unfolding report neighbours
 report-in-order = (refl, refl, refl)
+
+-- ---- a list of reports
+-- One logger of one block in eight, which may grow to four.
+pub alone : Schedule
+unfolding fresh withConnections
+alone = withConnection fresh 0 (record { live = true; k = 3; anchor = 0; length = 1; floor = 1; ceiling = 4; estimate = 5000 })
+
+abbrev of : ℕ → ℕ → Report
+of handle sample = record { handle = handle; sample = sample }
+
+-- What the lent entries hold before.
+abbrev old : ℕ
+old = 2779096485
+
+-- Three reports: the first grows, the second is refused, and the third is made in what they left.
+abbrev three : List Report
+three = of 0 7500 ∷ of 9 0 ∷ of 0 7500 ∷ []
+
+-- The third is kept, by the estimate that the first and the third moved. The fourth entry is as it was.
+pub each-in-turn : (reportAll alone three (old ∷ old ∷ old ∷ old ∷ []) .answer ≡ reported 3)
+    × (reportAll alone three (old ∷ old ∷ old ∷ old ∷ []) .list ≡ 131074 ∷ 3 ∷ 65538 ∷ old ∷ [])
+    × (connection (reportAll alone three (old ∷ old ∷ old ∷ old ∷ []) .schedule) 0 .length ≡ 2)
+    × (connection (reportAll alone three (old ∷ old ∷ old ∷ old ∷ []) .schedule) 0 .estimate ≡ 5585)
+unfolding alone reportAll
+each-in-turn = (refl, refl, refl, refl)
+
+-- Two reports of one handle: grown then kept, and the other way round kept then grown; grown then shrunk, and kept twice.
+pub order-counts : (reportAll alone (of 0 7500 ∷ of 0 5000 ∷ []) (old ∷ old ∷ []) .list ≡ 131074 ∷ 65538 ∷ [])
+    × (reportAll alone (of 0 5000 ∷ of 0 7500 ∷ []) (old ∷ old ∷ []) .list ≡ 65537 ∷ 131074 ∷ [])
+    × (reportAll alone (of 0 7500 ∷ of 0 0 ∷ []) (old ∷ old ∷ []) .list ≡ 131074 ∷ 196609 ∷ [])
+    × (reportAll alone (of 0 0 ∷ of 0 7500 ∷ []) (old ∷ old ∷ []) .list ≡ 65537 ∷ 65537 ∷ [])
+unfolding alone reportAll
+order-counts = (refl, refl, refl, refl)
+
+-- 14 before any report; 13 first; neither in a list that just holds them, nor of no reports.
+pub lists-in-order : (reportAll alone three (old ∷ old ∷ []) ≡ refusingList alone (old ∷ old ∷ []) 14)
+    × (reportAll alone (replicate 65 (of 0 7500)) [] ≡ refusingList alone [] 13)
+    × (reportAll alone (of 9 0 ∷ []) (old ∷ []) .answer ≡ reported 1)
+    × (reportAll alone [] [] .answer ≡ reported 0)
+unfolding alone reportAll
+lists-in-order = (refl, refl, refl, refl)

@@ -1,5 +1,6 @@
 -- What the rule sheet answers, and what each case of an answer's enum stands for.
 use Prim.Native.Nat.{ℕ}
+use mathlib.Core.List.{List}
 use Rattle.rules.specs.declared.Schedule.{Schedule}
 use Rattle.rules.specs.declared.Admission.{Admission}
 use Rattle.rules.specs.declared.Admission.the-variants.{Placed, Refused as AdmissionRefused}
@@ -7,6 +8,8 @@ use Rattle.rules.specs.declared.Dropping.{Dropping}
 use Rattle.rules.specs.declared.Dropping.the-variants.{Done, Refused as DroppingRefused}
 use Rattle.rules.specs.declared.Reporting.{Reporting}
 use Rattle.rules.specs.declared.Reporting.the-variants.{Kept, Grown, Shrunk, Tight, Refused as ReportingRefused}
+use Rattle.rules.specs.declared.ReportingAll.{ReportingAll}
+use Rattle.rules.specs.declared.ReportingAll.the-variants.{Answered, Refused as ReportingAllRefused}
 use Rattle.rules.specs.declared.Ownership.{Ownership}
 use Rattle.rules.specs.declared.Ownership.the-variants.{Handle, Idle}
 use Rattle.rules.specs.declared.Distance.{Distance}
@@ -20,6 +23,7 @@ use Rattle.rules.specs.declared.Reply.the-variants.{Admission as ReplyAd
 use Rattle.rules.specs.declared.Admitted.{Admitted}
 use Rattle.rules.specs.declared.Dropped.{Dropped}
 use Rattle.rules.specs.declared.Reported.{Reported}
+use Rattle.rules.specs.declared.ReportedAll.{ReportedAll}
 use Rattle.rules.specs.declared.Loaded.{Loaded}
 use Rattle.rules.specs.declared.Obeyed.{Obeyed}
 use Rattle.rules.specs.Refusals.{number}
@@ -35,15 +39,26 @@ pub data Answer : Type 0 where
   slots : ℕ → Answer
   saved : ℕ → Answer
   loaded : ℕ → Answer
+  reported : ℕ → Answer
 
 -- What a call leaves: its answer and the schedule afterwards.
 pub record Outcome : Type 0 where
   pub answer : Answer
   pub schedule : Schedule
 
+-- What a call leaves that fills a lent list of numbers: its answer, the schedule afterwards and every entry of the list.
+pub record Listed : Type 0 where
+  pub answer : Answer
+  pub schedule : Schedule
+  pub list : List ℕ
+
 -- "A refusal returns its number only; the schedule and the buffers are as they were before the call."
 abbrev pub refusing : Schedule → ℕ → Outcome
 refusing s n = record { answer = refused n; schedule = s }
+
+-- A lent list is as it was, too.
+abbrev pub refusingList : Schedule → List ℕ → ℕ → Listed
+refusingList s list n = record { answer = refused n; schedule = s; list = list }
 
 -- ---- the sheet's number and values for every case of every enum
 abbrev pub ofAdmission : Admission → Answer
@@ -60,6 +75,10 @@ ofReporting (Grown L) = grown L
 ofReporting (Shrunk L) = shrunk L
 ofReporting (Tight L) = tight L
 ofReporting (ReportingRefused r) = refused (number r)
+
+abbrev pub ofReportingAll : ReportingAll → Answer
+ofReportingAll (Answered n) = reported n
+ofReportingAll (ReportingAllRefused r) = refused (number r)
 
 abbrev pub ofOwnership : Ownership → Answer
 ofOwnership (Handle h) = owner h
@@ -93,6 +112,9 @@ ofDropped r = record { answer = ofDropping (r .answer); schedule = r .schedule }
 
 abbrev pub ofReported : Reported → Outcome
 ofReported r = record { answer = ofReporting (r .answer); schedule = r .schedule }
+
+abbrev pub ofReportedAll : ReportedAll → List ℕ → Listed
+ofReportedAll r list = record { answer = ofReportingAll (r .answer); schedule = r .schedule; list = list }
 
 abbrev pub ofLoaded : Loaded → Outcome
 ofLoaded r = record { answer = ofLoading (r .answer); schedule = r .schedule }

@@ -17,6 +17,8 @@ pub mod Steps
 pub mod Drop
 pub mod Meter
 pub mod Report
+pub mod Lent
+pub mod Reports
 pub mod Owner
 pub mod Anchor
 pub mod Obey

@@ -1,12 +1,13 @@
 -- Save: a lent buffer.
 use Prim.Native.Nat.{ℕ}
-use mathlib.Core.List.{List, [], _∷_, _++_}
+use mathlib.Core.List.{List, [], _∷_}
 use lib.Dec.{ltb}
-use lib.ListN.{length, drop}
+use lib.ListN.{length}
 use Rattle.rules.specs.declared.Schedule.{Schedule}
 use Rattle.rules.specs.declared.Refusal.the-variants.{BufferShort}
 use Rattle.rules.specs.Refusals.{Check, check, decided}
 use Rattle.rules.specs.Answers.{Answer, refused, saved}
+use Rattle.rules.specs.Lent.{over}
 use Rattle.rules.specs.Image.{image}
 
 -- What a save leaves: its answer and every byte of the buffer. The schedule is not touched.
@@ -24,7 +25,7 @@ unfoldable pub saveDone : Schedule → List ℕ → Written
 unfolding image
 saveDone s buffer =
     let bytes = image s in
-    record { answer = saved (length bytes); buffer = bytes ++ drop (length bytes) buffer }
+    record { answer = saved (length bytes); buffer = over bytes buffer }
 
 unfoldable pub save : Schedule → List ℕ → Written
 unfolding saveChecks saveDone decided

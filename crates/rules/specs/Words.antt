@@ -2,7 +2,7 @@
 use Prim.Native.Nat.{ℕ}
 use mathlib.Core.List.{List, [], _∷_, _++_}
 use Rattle.rules.specs.Text.{byte, text}
-use Rattle.rules.specs.Answers.{Answer, refused, ok, dropped, kept, grown, shrunk, tight, owner, idle, slots, saved, loaded}
+use Rattle.rules.specs.Answers.{Answer, refused, ok, dropped, kept, grown, shrunk, tight, owner, idle, slots, saved, loaded, reported}
 use Rattle.rules.specs.Decimal.{decimal}
 
 -- Numbers, "one space before each, decimal".
@@ -12,7 +12,7 @@ spaced [] = []
 spaced (n ∷ ns) = byte " " ∷ (decimal n ++ spaced ns)
 
 -- "`ok F A L`; `ok` for drop; `kept`, `grown`, `shrunk` or `tight` and L; `owner` and handle, or `idle`; `slots` and the
--- number; `no` and the refusal number."
+-- number; `no` and the refusal number." Saved, loaded and reported are the probe's words.
 unfoldable pub wordsOf : Answer → List ℕ
 unfolding spaced
 wordsOf (refused n) = text "no" ++ spaced (n ∷ [])
@@ -27,6 +27,7 @@ wordsOf idle = text "idle"
 wordsOf (slots n) = text "slots" ++ spaced (n ∷ [])
 wordsOf (saved n) = text "saved" ++ spaced (n ∷ [])
 wordsOf (loaded n) = text "loaded" ++ spaced (n ∷ [])
+wordsOf (reported n) = text "reported" ++ spaced (n ∷ [])
 
 -- No answer of a call has a longer line, with its LF: four bytes for each byte of the shortest command, `drop 0`, and its LF.
 abbrev pub longestAnswer : ℕ

@@ -20,6 +20,9 @@ pub const LAST_HANDLE: u32 = 63;
 /// How many handles there are.
 pub const HANDLES: usize = LAST_HANDLE as usize + 1;
 
+/// The most reports of one list.
+pub const MOST_REPORTS: usize = 64;
+
 /// The largest k of a factor 2^k.
 pub const LARGEST_K: u8 = 9;
 
@@ -90,6 +93,13 @@ pub struct Meter {
     pub length: u16,
 }
 
+/// A report of a list: a handle, and the µs that its connection used in its last run. Eight bytes.
+#[repr(C)]
+pub struct Report {
+    pub handle: u32,
+    pub sample: u32,
+}
+
 // ---- the answers
 
 /// Why a call is refused: a case for each row of the refusal table.
@@ -106,6 +116,8 @@ pub enum Refusal {
     NumbersUnsound,
     BlockOwnedTwice,
     TreeDiffers,
+    ReportsMany,
+    ListShort,
 }
 
 /// What an interval gives: the k of its factor 2^k, or nothing.
@@ -158,6 +170,12 @@ pub enum Reporting {
     Grown(u16),
     Shrunk(u16),
     Tight(u16),
+    Refused(Refusal),
+}
+
+/// How many reports of a list were made.
+pub enum ReportingAll {
+    Answered(u8),
     Refused(Refusal),
 }
 
@@ -238,6 +256,11 @@ pub struct Dropped {
 
 pub struct Reported {
     pub answer: Reporting,
+    pub schedule: Schedule,
+}
+
+pub struct ReportedAll {
+    pub answer: ReportingAll,
     pub schedule: Schedule,
 }
 

@@ -70,6 +70,8 @@ pub fn refusal_number(r: Refusal) -> u32
         Refusal::NumbersUnsound => 10,
         Refusal::BlockOwnedTwice => 11,
         Refusal::TreeDiffers => 12,
+        Refusal::ReportsMany => 13,
+        Refusal::ListShort => 14,
     }
 }
 
