@@ -4,14 +4,15 @@ use mathlib.Core.Bool.{Bool, true, false, _||_, _&&_, not, cond, Bool·beq, or-t
 use mathlib.Core.List.{List}
 use mathlib.Core.Logic.{by-cases}
 use Prim.Native.Nat.{ℕ, zero, suc, _+_, _-_, _*_, _/_, _%_, _^_, _<_, _≤_}
-use native.Mathlib.Nat.{mod-eq-of-lt, one-mul, mul-le-mul-right}
+use native.Mathlib.Nat.{mod-eq-of-lt, zero-mul, one-mul, mul-le-mul-right}
 use native.Mathlib.Decide.{ℕ-discrete}
 use native.Mathlib.Omega.{arith}
-use lib.Bits.{bitOr, bitAnd, and-mask, or-shr, or-mod, or-zero-l, or-lt, and-shr, and-mod, and-zero-l, and-le-l, or-shifted}
+use lib.Bits.{bitOr, bitAnd, and-mask, or-shr, or-mod, or-zero-l, or-zero-r, or-lt, and-shr, and-mod, and-zero-l, and-le-l, or-shifted}
 use lib.Pow.{pow-lt, pow-mono, pow-add}
 use lib.Dec.{eqb}
 use lib.ListN.{length, getD, set, length-set}
 use lib.Seq.{getD-set-same, getD-set-other}
+use mir.Val.{boolByte}
 use borrow.Author.Tests.{eq-eqb, ne-eqb}
 use Rattle.rules.specs.Classes.{depth}
 use Rattle.rules.specs.Below.{every}
@@ -97,6 +98,10 @@ and-cond : (e b : Bool) → b && not e ≡ cond e false b
 and-cond true b = and-false b
 and-cond false b = and-true b
 
+cond-again : (e b : Bool) → cond e true (cond e false b) ≡ cond e true b
+cond-again true b = refl
+cond-again false b = refl
+
 pub set-bit : (x i j : ℕ) → i < 8 → j < 8 → bitOf (bitOr x (2 ^ i)) j ≡ cond (eqb j i) true (bitOf x j)
 set-bit x i j hi hj =
     or-bit x (2 ^ i) j ∙ ap (λ (v : Bool). bitOf x j || v) (pow-bit i j hi hj) ∙ or-cond (eqb j i) (bitOf x j)
@@ -136,27 +141,38 @@ module _ (t : List ℕ) (n y : ℕ) (v : Bool) (sized : Sized t) (hn : n < 1024)
             (λ e. rw (getD-set-other t (n / 8) i y 0 e) (sized .small i));
       }
 
--- what `write_node` stores: the byte with the node's bit set, and with it cleared
+-- what `write_node` stores: the byte with the node's bit cleared, and the new one in its place
 module _ (t : List ℕ) (n : ℕ) (sized : Sized t) (hn : n < 1024) where
-  pub sets : Writes n true t (set t (n / 8) (bitOr (getD t (n / 8) 0) (1 * 2 ^ bitAnd n 7 % 256)))
-  sets =
-      let w : (j : ℕ) → j < 8 → bitOf (bitOr (getD t (n / 8) 0) (2 ^ (n % 8))) j ≡ cond (eqb j (n % 8)) true (bitOf (getD t (n / 8) 0) j) =
-      λ j h. set-bit (getD t (n / 8) 0) (n % 8) j (omega arith) h in
-      rw (one-shl n)
-      (record {
-        sized = written-sized t n _ true sized hn w (set-byte (getD t (n / 8) 0) (n % 8) (sized .small (n / 8)) (omega arith));
-        bits = written-bits t n _ true sized hn w;
-      })
+  abbrev byte : ℕ
+  byte = getD t (n / 8) 0
 
-  pub clears : Writes n false t (set t (n / 8) (bitAnd (getD t (n / 8) 0) (255 - 1 * 2 ^ bitAnd n 7 % 256)))
+  abbrev cleared : ℕ
+  cleared = bitAnd byte (255 - 2 ^ (n % 8))
+
+  sets : Writes n true t (set t (n / 8) (bitOr cleared (2 ^ (n % 8))))
+  sets =
+      let w : (j : ℕ) → j < 8 → bitOf (bitOr cleared (2 ^ (n % 8))) j ≡ cond (eqb j (n % 8)) true (bitOf byte j) =
+      λ j h.
+      set-bit cleared (n % 8) j (omega arith) h
+      ∙ ap (λ (b : Bool). cond (eqb j (n % 8)) true b) (clear-bit byte (n % 8) j (omega arith) h)
+      ∙ cond-again (eqb j (n % 8)) (bitOf byte j) in
+      record {
+        sized = written-sized t n _ true sized hn w (set-byte cleared (n % 8) (clear-byte byte (255 - 2 ^ (n % 8)) (sized .small (n / 8))) (omega arith));
+        bits = written-bits t n _ true sized hn w;
+      }
+
+  clears : Writes n false t (set t (n / 8) cleared)
   clears =
-      let w : (j : ℕ) → j < 8 → bitOf (bitAnd (getD t (n / 8) 0) (255 - 2 ^ (n % 8))) j ≡ cond (eqb j (n % 8)) false (bitOf (getD t (n / 8) 0) j) =
-      λ j h. clear-bit (getD t (n / 8) 0) (n % 8) j (omega arith) h in
-      rw (one-shl n)
-      (record {
-        sized = written-sized t n _ false sized hn w (clear-byte (getD t (n / 8) 0) (255 - 2 ^ (n % 8)) (sized .small (n / 8)));
+      let w : (j : ℕ) → j < 8 → bitOf cleared j ≡ cond (eqb j (n % 8)) false (bitOf byte j) = λ j h. clear-bit byte (n % 8) j (omega arith) h in
+      record {
+        sized = written-sized t n _ false sized hn w (clear-byte byte (255 - 2 ^ (n % 8)) (sized .small (n / 8)));
         bits = written-bits t n _ false sized hn w;
-      })
+      }
+
+  pub writes : (taken : Bool)
+      → Writes n taken t (set t (n / 8) (bitOr (bitAnd (getD t (n / 8) 0) (255 - 1 * 2 ^ bitAnd n 7 % 256)) (boolByte taken * 2 ^ bitAnd n 7 % 256)))
+  writes true = rw (one-shl n) sets
+  writes false = rw (one-shl n, zero-mul, or-zero-r) clears
 
 -- ---- the node of a class
 -- the bit of depth k above what is mirrored

@@ -60,11 +60,9 @@ fn write_node(tree: &mut [u8; TREE_BYTES], n: usize, taken: bool)
 {
     let at = n >> 3;
     let bit = 1u8 << (n & 7);
-    if taken {
-        tree[at] = tree[at] | bit;
-    } else {
-        tree[at] = tree[at] & !bit;
-    }
+    // no branch: the compiler then sees through write_below that no pointer to the tree is kept, and copies a schedule less often
+    let wanted = (taken as u8) << (n & 7);
+    tree[at] = (tree[at] & !bit) | wanted;
 }
 
 // Marking a node reaches every node beneath it, `left` levels down to the leaves.
