@@ -1,6 +1,6 @@
 //! The rule that moves a meter, on numbers.
 ghost use mathlib.Core.Path.{_≡_};
-ghost use Prim.Native.Nat.{_≤_};
+ghost use Prim.Native.Nat.{_≤_, max};
 ghost use Rattle.meter.specs.Moved.{listMicros, movedMeter};
 ghost use Rattle.rules.specs.Meter.{moved as movedRule, need as needRule, target as targetRule};
 use rules::BLOCK_MICROS;
@@ -26,20 +26,21 @@ fn need(estimate: u32) -> u32
     (estimate + GUARD_MICROS + (BLOCK_MICROS - 1)) / BLOCK_MICROS
 }
 
+fn larger(a: u32, b: u32) -> u32
+    ensures { λ r. ⌜ r ≡ max a b ⌝ }
+{
+    if a < b { b } else { a }
+}
+
 // Need, raised to the floor or lowered to the ceiling.
 fn target(needed: u32, floor: u16, ceiling: u16) -> u16
     ensures { λ r. ⌜ r ≡ targetRule needed floor ceiling ⌝ }
 {
-    if ceiling as u32 <= needed {
+    let raised = larger(needed, floor as u32);
+    if ceiling as u32 <= raised {
         return ceiling;
     }
-    if ceiling <= floor {
-        return ceiling;
-    }
-    if needed <= floor as u32 {
-        return floor;
-    }
-    needed as u16
+    raised as u16
 }
 
 // The meter moved by a sample: the new estimate, with the length that it aims at.
