@@ -32,7 +32,7 @@ use Rattle.calls.proofs.AnswerLaws.{reporting-injective}
 use Rattle.calls.proofs.AdmitLaws.{admit-good}
 use Rattle.place.proofs.PlanLaws.{carry, admit-plan}
 use Rattle.calls.proofs.DropLaws.{drop-ok, drop-good}
-use Rattle.calls.proofs.MeterLaws.{change-cases, target-bounds}
+use Rattle.calls.proofs.MeterLaws.{change-cases, change-shrunk, target-bounds}
 use Rattle.calls.proofs.ReportLaws.{report-ok, report-good}
 use Rattle.blocks.proofs.RunLaws.{tree-run-none}
 use Rattle.tree.specs.Promises.{IsTree}
@@ -75,18 +75,24 @@ module _ (s : Schedule) (good : Good s) (h i f c : ℕ) where
         ∙ sym (admit-plan s h i f c b ∙ ap (carry s h f c) e)
 
 -- ---- drop
+-- A run that settles to no block is given back as a whole.
+given-back : (c : Connection) (r : Reporting) (before after : List ℕ) → 1 ≤ c .length → Settles c 0 before after r → SetsRun (c .k) (c .anchor) 0 (c .length) false before after
+given-back c r before after some st f e =
+    let w = reporting-injective r (Shrunk 0) (st .answer f e ∙ change-shrunk (c .length) 0 (roomToGrow f c) (omega arith)) in
+    st .tree f e ∙ ap (λ (x : Reporting). treeOf (takenAfter c x f)) w
+
 module _ (s : Schedule) (good : Good s) (h : ℕ) where
   pub drops : (r : Dropped) → ofDropped r ≡ dropHandle s h → Drops s h r
   drops r e = record { is = e; good = subst Good (sym (ap (λ (o : Outcome). o .schedule) e)) (drop-good s good h) }
 
-  pub drop-made : h ≤ 63 → isLive s h ≡ true → (free : Connection) (bytes : List ℕ) → free ≡ nobody
-      → SetsRun (connection s h .k) (connection s h .anchor) 0 (connection s h .length) false (s .tree .bytes) bytes
+  pub drop-made : h ≤ 63 → isLive s h ≡ true → (free : Connection) (r : Reporting) (bytes : List ℕ) → free ≡ nobody
+      → Settles (connection s h) 0 (s .tree .bytes) bytes r
       → _≡_ {A = Outcome} (record { answer = dropped; schedule = record { connections = set (s .connections) h free; tree = record { bytes = bytes } } }) (dropHandle s h)
   unfolding dropDone
-  drop-made b q free bytes n r =
+  drop-made b q free r bytes n st =
       let c = connection s h in
       let t : bytes ≡ treeFor (set (s .connections) h free) =
-      r (taken (s .connections)) (good-tree s good)
+      given-back c r (s .tree .bytes) bytes (omega (arith, good-sound s good .numbers h q)) st (taken (s .connections)) (good-tree s good)
       ∙ shorter-tree (s .connections) h (c .k) (c .anchor) (c .length) 0 (inside s good h b) (live-runs c q) free (rw n (dead-runs (c .k) (c .anchor) nobody refl)) (good-sound s good) (omega arith) in
       ap (λ (x : Schedule). record { answer = dropped; schedule = x }) (scheduled s (set (s .connections) h free) bytes t)
       ∙ ap (λ (x : Connection). record { answer = dropped; schedule = withConnection s h x }) n

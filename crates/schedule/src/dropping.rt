@@ -1,13 +1,13 @@
 //! Drop: checks 1, 3.
 ghost use Rattle.rules.specs.Good.{Good};
 ghost use Rattle.schedule.specs.Promises.{Drops};
+use crate::reporting::settle;
 use rules::Dropped;
 use rules::Dropping;
 use rules::LAST_HANDLE;
 use rules::Refusal;
 use rules::Schedule;
 use run::nobody;
-use run::set_run;
 
 /// Drops a connection: its blocks are free at once.
 pub fn drop(mut s: Schedule, handle: u32) -> Dropped
@@ -19,14 +19,8 @@ pub fn drop(mut s: Schedule, handle: u32) -> Dropped
         let h = handle as usize;
         let c = s.connections[h];
         if c.live {
-            set_run(
-                &mut s.tree.bytes,
-                c.k as u32,
-                c.anchor,
-                0,
-                c.length as u32,
-                false,
-            );
+            // the run shrinks to no block
+            settle(&mut s.tree.bytes, c, 0);
             s.connections[h] = nobody();
             answer = Dropping::Done;
         } else {

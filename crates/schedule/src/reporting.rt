@@ -19,7 +19,7 @@ use run::class_at;
 use run::set_run;
 
 // Kept, shrunk, grown or tight for the length aimed at; the tree follows.
-fn settle(tree: &mut [u8; TREE_BYTES], c: Connection, aim: u16) -> Reporting
+pub fn settle(tree: &mut [u8; TREE_BYTES], c: Connection, aim: u16) -> Reporting
     requires { ⌜ Numbers c × (aim ≤ c .ceiling) × IsTree (now tree) ⌝ }
     ensures { λ r. ⌜ Settles c aim (now (tree .entry)) (now (tree .exit)) r ⌝ }
 {

@@ -1,7 +1,6 @@
--- `schedule::dropping::drop` meets its contract: the whole run is given back.
+-- `schedule::dropping::drop` meets its contract: the run settles to no block.
 use borrow.Author.Needs.{needs}
 use mathlib.Core.Path.{sym}
-use native.Mathlib.Nat.{le-trans}
 use native.Mathlib.Omega.{arith}
 use Rattle.rules.specs.Handles.{connection}
 use Rattle.rules.specs.Sound.{Numbers}
@@ -10,7 +9,6 @@ use Rattle.calls.proofs.DropLaws.{drop-1, drop-3}
 use Rattle.schedule.proofs.Exits.{treed, drops, drop-made}
 use Rattle.schedule.proofs.dropping.drop.Statement.{statement}
 use Rattle.schedule.proofs.dropping.drop.Tie as tie
-use Rattle.blocks.proofs.ClassLaws.{within-depth}
 
 mul-c : tie.Need-mul-c
 mul-c c = search needs
@@ -18,37 +16,31 @@ mul-c c = search needs
 element-copy-out-c : tie.Need-element-copy-out-c
 element-copy-out-c c = search needs
 
-cast-set-run : tie.Need-cast-set-run
-cast-set-run c = search needs
-
-cast-set-run-2 : tie.Need-cast-set-run-2
-cast-set-run-2 c = search needs
-
 -- the numbers of the live connection
 numbers : (c : tie.Then2) → Numbers (connection (c .before .before .before .args .t1) (c .before .before .before .args .handle))
 numbers c = good-sound (c .before .before .before .args .t1) (c .before .before .before .pre) .numbers _ (c .if2 .taken)
 
-set-run-requires : tie.Need-set-run-requires
-set-run-requires c κs =
-    let t = c .before .before .before in
+settle-requires : tie.Need-settle-requires
+settle-requires c κs =
+    let t = c .before in
     let a = t .before .before .before in
-    let n = numbers t in
-    (within-depth (n .deep), n .anchored, omega arith, le-trans (n .ceiled) (n .whole), treed (a .args .t1) (a .pre))
+    (numbers t, omega arith, treed (a .args .t1) (a .pre))
 
 nobody-requires : tie.Need-nobody-requires
 nobody-requires c κs = search needs
 
-mul-t19 : tie.Need-mul-t19
-mul-t19 c = search needs
+mul-t17 : tie.Need-mul-t17
+mul-t17 c = search needs
 
 element-set-from-s : tie.Need-element-set-from-s
 element-set-from-s c = search needs
 
 returns : tie.Need-returns
 returns c =
-    let t = c .before .before .before .before .before in
+    let t = c .before .before .before in
     let a = t .before .before .before in
-    drops (a .args .t1) (a .pre) _ _ (drop-made (a .args .t1) (a .pre) _ (t .before .before .if1 .taken) (t .if2 .taken) _ _ (c .nobody .ensures) (c .before .set-run .ensures))
+    let st = c .before .settle in
+    drops (a .args .t1) (a .pre) _ _ (drop-made (a .args .t1) (a .pre) _ (t .before .before .if1 .taken) (t .if2 .taken) _ (st .result) _ (c .nobody .ensures) (st .ensures))
 
 returns-2 : tie.Need-returns-2
 returns-2 c =
@@ -64,11 +56,9 @@ drop-spec =
     (tie.spec
     mul-c
     element-copy-out-c
-    cast-set-run
-    cast-set-run-2
-    set-run-requires
+    settle-requires
     nobody-requires
-    mul-t19
+    mul-t17
     element-set-from-s
     returns
     returns-2
