@@ -1,0 +1,3 @@
+-- What the list of reports promises.
+pub mod Pairs
+pub mod Promises
