@@ -1,10 +1,11 @@
 -- The customer's demands are met by the rule sheet's step, and by every run of the code.
 use mathlib.Core.Path.{_≡_, ap, _∙_, subst⁻¹}
-use mathlib.Core.List.{List, _++_}
+use mathlib.Core.List.{List}
 use Prim.Native.Nat.{ℕ, _≤_}
-use lib.ListN.{length, drop}
+use lib.ListN.{length}
 use Rattle.rules.specs.Handles.{connection}
 use Rattle.rules.specs.Answers.{saved}
+use Rattle.rules.specs.Lent.{over}
 use Rattle.rules.specs.Image.{image}
 use Rattle.blocks.proofs.SoundLaws.{Sound}
 use Rattle.blocks.proofs.ScheduleLaws.{good-sound}
@@ -68,7 +69,7 @@ saves-back S one two run m save bytes n s p a q long =
     let e : image (m .result .schedule) ≡ bytes .list = two .same run m bytes n (one .takes .earlier (more run m) save s) p a form in
     let w = two .saves (more run m) save s q (subst⁻¹ (λ (l : List ℕ). length l ≤ length (save .request .lent .buffer)) e long) in (
       w .0 ∙ ap (λ (l : List ℕ). saved (length l)) e,
-      w .1 ∙ ap (λ (l : List ℕ). l ++ drop (length l) (save .request .lent .buffer)) e,
+      w .1 ∙ ap (λ (l : List ℕ). over l (save .request .lent .buffer)) e,
     )
 
 -- The theorem, of every run of the code.

@@ -1,7 +1,7 @@
 -- What one call does to one connection.
 use mathlib.Core.Path.{_≡_, refl, sym, _∙_, subst, subst⁻¹}
 use mathlib.Core.Bool.{true, false}
-use mathlib.Core.Logic.{_≢_, by-cases}
+use mathlib.Core.Logic.{_≢_, by-cases, _⊎_, ⊎-elim}
 use mathlib.Core.List.{List}
 use Prim.Native.Nat.{ℕ, _^_}
 use native.Mathlib.Decide.{ℕ-discrete}
@@ -15,17 +15,20 @@ use Rattle.rules.specs.Answers.{Outcome, refusing, dropped}
 use Rattle.rules.specs.Handles.{connection, isLive}
 use Rattle.rules.specs.Admit.{kOf, newConnection, anchorFor, admitDone, admit}
 use Rattle.rules.specs.Drop.{dropDone, dropHandle}
-use Rattle.rules.specs.Report.{metered, reportDone, report}
+use Rattle.rules.specs.Report.{metered, report}
+use Rattle.rules.specs.Reports.{reportAll}
+use Rattle.rules.specs.declared.Report.{Report as ReportOfList}
 use Rattle.rules.specs.Image.{IsImage}
 use Rattle.rules.specs.Load.{load}
 use Rattle.blocks.proofs.ScheduleLaws.{set-same}
 use Rattle.calls.proofs.AdmitLaws.{admit-cases, admit-others}
 use Rattle.calls.proofs.DropLaws.{drop-cases, drop-others}
-use Rattle.calls.proofs.ReportLaws.{report-cases, report-others, new}
+use Rattle.calls.proofs.ReportLaws.{report-own}
+use Rattle.calls.proofs.ReportsLaws.{report-all-own}
 use Rattle.images.proofs.ImageLaws.{load-cases}
-use Rattle.history.specs.Calls.{Bytes, Call, Admit, Drop, Report, Owner, Anchor, Save, Load, Request, Result, beside, ruledCall, ruled}
+use Rattle.history.specs.Calls.{Bytes, Call, Admit, Drop, Report, Reports, Owner, Anchor, Save, Load, Request, Result, beside, filled, ruledCall, ruled}
 use Rattle.history.specs.Runs.{Made}
-use Rattle.history.specs.Moments.{AdmissionOf, DropOf, ReportOf, Placed, Restores}
+use Rattle.history.specs.Moments.{AdmissionOf, DropOf, ReportOf, single, listed, Placed, Restores}
 
 -- A call that neither begins nor ends x: no accepted admission or drop of x, and no accepted restore.
 pub record Quiet (m : Made) (x : ℕ) : Type 0 where
@@ -49,6 +52,7 @@ abbrev Other : ℕ → Call → Type 0
 Other x (Admit h i f c) = x ≢ h
 Other x (Drop h) = x ≢ h
 Other x (Report h sample) = Unit {0}
+Other x (Reports reports) = Unit {0}
 Other x (Owner b) = Unit {0}
 Other x (Anchor h b) = Unit {0}
 Other x Save = Unit {0}
@@ -102,15 +106,13 @@ module _ (s : Schedule) (good : Good s) (r : Request) (x : ℕ) where
       (λ q. kept (other p q) (drop-others s good h x q))
 
   reporting : (h sample : ℕ) → r .call ≡ Report h sample → Leads (report s h sample)
-  unfolding reportDone
   reporting h sample p =
-      by-cases (ℕ-discrete x h)
-      (λ q.
-      report-cases s h sample Leads refusal
-      (λ a.
-      let c = new s good h sample a in
-      moved (other p tt) (sample, rw q p) (c .length) (c .estimate) (rw q (set-same s good h (a .handle) c))))
-      (λ q. kept (other p tt) (report-others s good h sample x q))
+      ⊎-elim (λ e. kept (other p tt) e) (λ w. moved (other p tt) (single sample (rw (w .0) p)) (w .1 .0) (w .1 .1) (w .1 .2)) (report-own s good h sample x)
+
+  listing : (reports : List ReportOfList) → r .call ≡ Reports reports → Effect s (leaving (filled (r .lent) (reportAll s reports (r .lent .list)))) x
+  listing reports p =
+      ⊎-elim (λ e. kept (other p tt) e) (λ w. moved (other p tt) (listed reports p (w .0)) (w .1 .0) (w .1 .1) (w .1 .2))
+      (report-all-own s reports (r .lent .list) good x)
 
   restoring : (bytes : Bytes) → r .call ≡ Load bytes → Leads (load s (bytes .list))
   unfolding sound withConnections
@@ -125,6 +127,7 @@ module _ (s : Schedule) (good : Good s) (r : Request) (x : ℕ) where
       go (Admit h i f c) p = admission h i f c p
       go (Drop h) p = dropping h p
       go (Report h sample) p = reporting h sample p
+      go (Reports reports) p = listing reports p
       go (Owner b) p = kept (other p tt) refl
       go (Anchor h b) p = kept (other p tt) refl
       go Save p = kept (other p tt) refl

@@ -1,14 +1,13 @@
 -- Runs of the rule sheet's step: the schedule is the one after the history, and is good; and every run of the code is one.
-use mathlib.Core.Path.{_≡_, refl, sym, ap, _∙_, subst⁻¹}
+use mathlib.Core.Path.{_≡_, ap, _∙_, subst⁻¹}
 use mathlib.Core.List.{List, [], _∷_}
 use Rattle.rules.specs.declared.Schedule.{Schedule}
-use Rattle.rules.specs.Answers.{Outcome, ofOwnership, ofDistance}
-use Rattle.rules.specs.Good.{Good, fresh}
-use Rattle.rules.specs.Save.{Written}
+use Rattle.rules.specs.Good.{Good}
 use Rattle.blocks.proofs.ScheduleLaws.{fresh-is-good}
 use Rattle.calls.proofs.CallLaws.{admits, drops, reports, call-good}
+use Rattle.calls.proofs.ReportsLaws.{report-all-good}
 use Rattle.images.proofs.ImageLaws.{load-good}
-use Rattle.history.specs.Calls.{Bytes, Call, Admit, Drop, Report, Owner, Anchor, Save, Load, Lent, Request, Result, beside, asked, ruledCall, ruled}
+use Rattle.history.specs.Calls.{Call, Admit, Drop, Report, Reports, Owner, Anchor, Save, Load, Lent, Result, beside, asked, filled, written, ruledCall, ruled}
 use Rattle.history.specs.Runs.{Start, Fresh, startOf, History, begin, next, after, Made, Run, begun, more, now, historyOf, followed, StepFunction, By}
 use Rattle.history.specs.Code.{StartsAs, Meets, Coded}
 
@@ -22,6 +21,7 @@ unfolding ruledCall
 step-good s good (Admit h i f c) lent = call-good s good (admits h i f c)
 step-good s good (Drop h) lent = call-good s good (drops h)
 step-good s good (Report h sample) lent = call-good s good (reports h sample)
+step-good s good (Reports xs) lent = report-all-good s xs (lent .list) good
 step-good s good (Owner b) lent = good
 step-good s good (Anchor h b) lent = good
 step-good s good Save lent = good
@@ -65,9 +65,10 @@ unfolding ruledCall
 meets-ruled s (Admit h i f c) lent t (r, p, e) = e ∙ ap (beside lent) (p .is)
 meets-ruled s (Drop h) lent t (r, p, e) = e ∙ ap (beside lent) (p .is)
 meets-ruled s (Report h sample) lent t (r, p, e) = e ∙ ap (beside lent) (p .is)
+meets-ruled s (Reports xs) lent t (r, exit, p, e) = e ∙ ap (filled lent) (p .is)
 meets-ruled s (Owner b) lent t (r, p, e) = e ∙ ap (asked lent s) p
 meets-ruled s (Anchor h b) lent t (r, p, e) = e ∙ ap (asked lent s) p
-meets-ruled s Save lent t (r, exit, p, e) = e ∙ ap (λ (w : Written). record { answer = w .answer; schedule = s; lent = record { buffer = w .buffer } }) p
+meets-ruled s Save lent t (r, exit, p, e) = e ∙ ap (written lent s) p
 meets-ruled s (Load bytes) lent t (r, p, e) = e ∙ ap (beside lent) (p .is)
 
 -- A run of the code is a run of the rule sheet's step.

@@ -7,6 +7,7 @@ pub mod Counting
 pub mod Effects
 pub mod Lifetimes
 pub mod DemandsMet
+pub mod Singly
 pub mod ShutOut
 pub mod Saying
 pub mod Unique

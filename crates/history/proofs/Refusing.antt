@@ -8,15 +8,15 @@ use Rattle.rules.specs.declared.Schedule.{Schedule}
 use Rattle.rules.specs.Handles.{connection}
 use Rattle.rules.specs.Ownership.{handles, owns}
 use Rattle.rules.specs.Below.{least}
-use Rattle.rules.specs.Refusals.{number}
-use Rattle.rules.specs.Answers.{Answer, Outcome, refused, slots}
+use Rattle.rules.specs.Answers.{Outcome, refused, slots}
 use Rattle.rules.specs.Owner.{ownerOr, ownerOf}
 use Rattle.rules.specs.Anchor.{slotsToAnchor, anchorChecks, anchor}
 use Rattle.rules.specs.Save.{saveChecks, saveDone, save}
 use Rattle.calls.proofs.RefusalLaws.{decided-cases, refused-same}
 use Rattle.calls.proofs.CallLaws.{InTable, Tabled, Leaves, tabled, refusal-in-table, refusal-keeps-schedule}
+use Rattle.calls.proofs.ReportsLaws.{refusal-listed}
 use Rattle.images.proofs.LoadLaws.{load-in-table, load-keeps}
-use Rattle.history.specs.Calls.{Call, Admit, Drop, Report, Owner, Anchor, Save, Load, Lent, Result, beside, ruledCall, ruled}
+use Rattle.history.specs.Calls.{Call, Admit, Drop, Report, Reports, Owner, Anchor, Save, Load, Lent, Result, beside, ruledCall, ruled}
 use Rattle.history.specs.Runs.{Made, Run, more, now, By}
 use Rattle.history.specs.Demands.{Refusal}
 
@@ -47,10 +47,13 @@ unfolding ruledCall ownerOf anchor
 call-left s (Admit x i f c) lent n e = outcome-left s lent (Leaves.admits x i f c) n e
 call-left s (Drop x) lent n e = outcome-left s lent (Leaves.drops x) n e
 call-left s (Report x sample) lent n e = outcome-left s lent (Leaves.reports x sample) n e
+call-left s (Reports reports) lent n e =
+    let w = refusal-listed s reports (lent .list) n e in
+    (w .0, w .1, ap (λ (l : List ℕ). record { buffer = lent .buffer; list = l }) (w .2))
 call-left s (Owner b) lent n e = (owner-tabled (least handles (λ x. owns (connection s x) b)) n e, refl, refl)
 call-left s (Anchor x b) lent n e =
     (tabled (anchorChecks s x) (slots (slotsToAnchor (connection s x) b)) (λ m q. let z : _≡_ {A = ℕ} 0 1 = cc in absurd (omega arith)) n e, refl, refl)
-call-left s Save lent n e = let w = save-left s (lent .buffer) n e in (w .0, refl, ap (λ (b : List ℕ). record { buffer = b }) (w .1))
+call-left s Save lent n e = let w = save-left s (lent .buffer) n e in (w .0, refl, ap (λ (b : List ℕ). record { buffer = b; list = lent .list }) (w .1))
 call-left s (Load bytes) lent n e = (load-in-table s (bytes .list) n e, load-keeps s (bytes .list) n e, refl)
 
 pub refusals : (run : Run) (m : Made) (n : ℕ) → By ruled (more run m) → m .result .answer ≡ refused n → Refusal run m n

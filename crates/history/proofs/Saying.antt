@@ -1,5 +1,5 @@
 -- The command program prints, line by line, what the rule sheet's step answers after the commands said before.
-use mathlib.Core.Path.{_≡_, refl, sym, ap, ap₂, _∙_}
+use mathlib.Core.Path.{_≡_, refl, sym, ap, _∙_}
 use mathlib.Core.List.{List, [], _∷_, _++_, append-assoc}
 use Prim.Native.Nat.{ℕ}
 use lib.ListN.{take}
@@ -9,24 +9,22 @@ use Rattle.rules.specs.declared.Command.{Command}
 use Rattle.rules.specs.declared.Command.the-variants.{Admit, Drop, Report, Owner, Anchor}
 use Rattle.rules.specs.declared.Line.{Line}
 use Rattle.rules.specs.declared.Line.the-variants.{Says, Bad}
-use Rattle.rules.specs.Good.{fresh}
-use Rattle.rules.specs.Answers.{Outcome}
 use Rattle.rules.specs.Obey.{obey}
-use Rattle.rules.specs.Text.{byte, text}
-use Rattle.rules.specs.Split.{Parts, parted}
+use Rattle.rules.specs.Text.{byte}
+use Rattle.rules.specs.Split.{parted}
 use Rattle.rules.specs.Words.{wordsOf}
 use Rattle.rules.specs.Commands.{says}
-use Rattle.rules.specs.Program.{Printed, carriedOut, printed, tailPrinted, answered, program}
+use Rattle.rules.specs.Program.{carriedOut, printed, tailPrinted, answered, program}
 use Rattle.texts.proofs.SplitLaws.{split-piece}
 use Rattle.command.proofs.ProgramLaws.{carried-out-without, program-answered}
 use Rattle.command.specs.declared.Output.{Output}
 use Rattle.command.specs.Promises.{Runs}
-use Rattle.history.specs.Calls.{Result, beside, ruledCall, ruled}
-use Rattle.history.specs.Runs.{Fresh, startOf, History, begin, next, after}
+use Rattle.history.specs.Calls.{nothing, Result, beside, ruledCall, ruled}
+use Rattle.history.specs.Runs.{Fresh, startOf, History, begin, after}
 use Rattle.history.specs.Said.{requestOf, heard, heardAll, told, toldAll, tailTold, ProgramTold}
 
 -- A command's call is the one that the program makes for it.
-obey-ruled : (s : Schedule) (c : Command) → ruled s (requestOf c) ≡ beside (record { buffer = [] }) (obey s c)
+obey-ruled : (s : Schedule) (c : Command) → ruled s (requestOf c) ≡ beside nothing (obey s c)
 unfolding ruledCall obey
 obey-ruled s (Admit handle interval floor ceiling) = refl
 obey-ruled s (Drop handle) = refl

@@ -11,13 +11,13 @@ use Rattle.rules.specs.Core.{isInterval}
 use Rattle.rules.specs.Ownership.{handles, owns}
 use Rattle.rules.specs.Good.{fresh}
 use Rattle.rules.specs.Refusals.{number}
-use Rattle.rules.specs.Answers.{Answer, ok}
+use Rattle.rules.specs.Answers.{ok}
 use Rattle.rules.specs.Handles.{connection}
 use Rattle.rules.specs.Admit.{kOf}
 use Rattle.rules.specs.Image.{image}
 use Rattle.blocks.proofs.ScheduleLaws.{nobody-owns, fresh-is-good}
 use Rattle.images.proofs.ImageLaws.{image-bytes, at-free}
-use Rattle.history.specs.Calls.{Bytes, Call, Admit, Drop, Report, Owner, Save, Load, Lent, Request, Result, ruledCall}
+use Rattle.history.specs.Calls.{Bytes, Call, Admit, Drop, Report, Reports, Owner, Save, Load, Lent, nothing, Request, ruledCall}
 use Rattle.history.specs.Runs.{Fresh, startOf, History, begin, next, after, Made, Run, begun, more, now, historyOf, StepFunction, By}
 use Rattle.history.specs.Moments.{Ends, admitted, drops, replaced}
 use Rattle.history.specs.Demands.{ResultsGiven, ConnectionsGiven, RoomExact, RestoreExact, Demand2, countFrom, Counted, ApartEver, Lives, Demand3}
@@ -44,7 +44,7 @@ ran-by step (next h r) = (ran-by step h, refl)
 -- ---- the calls
 -- A call with nothing lent.
 abbrev plain : Call → Request
-plain c = record { call = c; lent = record { buffer = [] } }
+plain c = record { call = c; lent = nothing }
 
 -- A handle's admission to one block in eight;
 abbrev single : ℕ → Request
@@ -138,11 +138,19 @@ pub does-nothing-drop : ConnectionsGiven (By doesNothing) → ⊥
 unfolding ran after ruledCall
 does-nothing-drop given = false≢true (sym (live-given doesNothing (next (next start growing) (plain (Drop 0))) given))
 
--- A report of a full block leaves length 1, where 2 is due.
+-- A report of a full block leaves length 1, where 2 is due;
 pub does-nothing-report : ConnectionsGiven (By doesNothing) → ⊥
 unfolding ran after ruledCall
 does-nothing-report given =
     let z : _≡_ {A = ℕ} 1 2 = ap (λ (c : Connection). c .length) (numbers-given doesNothing (next (next start growing) (plain (Report 0 7500))) given refl) in
+    omega arith
+
+-- and so does a list that has it.
+pub does-nothing-list : ConnectionsGiven (By doesNothing) → ⊥
+unfolding ran after ruledCall
+does-nothing-list given =
+    let list : Request = record { call = Reports (record { handle = 0; sample = 7500 } ∷ []); lent = record { buffer = []; list = 0 ∷ [] } } in
+    let z : _≡_ {A = ℕ} 1 2 = ap (λ (c : Connection). c .length) (numbers-given doesNothing (next (next start growing) list) given refl) in
     omega arith
 
 pub does-nothing : Demand2 (By doesNothing) → ⊥
@@ -249,7 +257,7 @@ never-grows given =
 
 -- A save of a fresh schedule begins with 0, where 2, the length of the first record's payload, is due.
 abbrev backup : Request
-backup = record { call = Save; lent = record { buffer = replicate 138 165 } }
+backup = record { call = Save; lent = record { buffer = replicate 138 165; list = [] } }
 
 pub loses-backups : ResultsGiven (By losesBackups) → ⊥
 unfolding ran after ruledCall

@@ -7,11 +7,11 @@ use Prim.Native.Nat.{ℕ, _+_}
 use Rattle.rules.specs.declared.Refusal.{Refusal}
 use Rattle.rules.specs.declared.Schedule.{Schedule}
 use Rattle.rules.specs.declared.Connection.{Connection}
-use Rattle.rules.specs.declared.Admission.{Admission}
 use Rattle.rules.specs.declared.Admission.the-variants.{Placed, Refused as AdmissionRefused}
 use Rattle.rules.specs.declared.Dropping.the-variants.{Done, Refused as DroppingRefused}
 use Rattle.rules.specs.declared.Reporting.{Reporting}
 use Rattle.rules.specs.declared.Reporting.the-variants.{Kept, Grown, Shrunk, Tight, Refused as ReportingRefused}
+use Rattle.rules.specs.declared.ReportingAll.the-variants.{Answered, Refused as ReportingAllRefused}
 use Rattle.rules.specs.declared.Ownership.{Ownership}
 use Rattle.rules.specs.declared.Ownership.the-variants.{Handle, Idle}
 use Rattle.rules.specs.declared.Distance.the-variants.{Slots, Refused as DistanceRefused}
@@ -19,27 +19,29 @@ use Rattle.rules.specs.declared.Saving.{Saving}
 use Rattle.rules.specs.declared.Saving.the-variants.{Size, Refused as SavingRefused}
 use Rattle.rules.specs.declared.Loading.the-variants.{Count, Refused as LoadingRefused}
 use Rattle.rules.specs.Refusals.{Check, number, decided}
-use Rattle.rules.specs.Answers.{Answer, Outcome, refused, refusing, slots, ofAdmission, ofDropping, ofReporting, ofOwnership, ofDistance, ofSaving, ofLoading}
+use Rattle.rules.specs.Answers.{Answer, Outcome, Listed, refused, refusing, refusingList, slots, reported, ofAdmission, ofDropping, ofReporting, ofReportingAll, ofOwnership, ofDistance, ofSaving, ofLoading}
 use Rattle.rules.specs.Handles.{connection}
+use lib.ListN.{length}
 use Rattle.rules.specs.Ownership.{handles, owns, taken}
 use Rattle.rules.specs.Below.{least}
 use Rattle.rules.specs.Good.{Good}
-use Rattle.rules.specs.Admit.{kOf, anchorFor, admitChecks, admitDone, admit}
+use Rattle.rules.specs.Admit.{kOf, admitChecks, admitDone, admit}
 use Rattle.rules.specs.Drop.{dropChecks, dropDone, dropHandle}
 use Rattle.rules.specs.Meter.{change}
 use Rattle.rules.specs.Report.{roomToGrow, aim, reportAnswer, reportChecks, reportDone, report}
+use Rattle.rules.specs.Reports.{reportsChecks, reportsDone, reportAll}
 use Rattle.rules.specs.Owner.{ownerOr, ownerOf}
 use Rattle.rules.specs.Anchor.{slotsToAnchor, anchorChecks, anchor}
-use Rattle.rules.specs.Image.{image}
-use Rattle.rules.specs.Save.{Written, saveChecks, saveDone, save}
+use Rattle.rules.specs.Save.{saveChecks, saveDone, save}
 use Rattle.rules.specs.Load.{loadChecks, loadDone, load}
 use Rattle.calls.proofs.RefusalLaws.{decided-cases, decided-map}
 use Rattle.calls.proofs.MeterLaws.{change-cases}
 use Rattle.calls.proofs.CallLaws.{admits, drops, reports, call-good}
+use Rattle.calls.proofs.ReportsLaws.{report-all-good}
 use Rattle.images.proofs.ImageLaws.{load-good}
 use Rattle.blocks.proofs.ScheduleLaws.{fresh-is-good}
-use Rattle.history.specs.Calls.{Call, Admit, Drop, Report, Owner, Anchor, Save, Load, Lent, Request, Result}
-use Rattle.history.specs.Runs.{Start, Fresh, startOf, Run, begun, more, now, StepFunction, By}
+use Rattle.history.specs.Calls.{Call, Admit, Drop, Report, Reports, Owner, Anchor, Save, Load, Lent, Result}
+use Rattle.history.specs.Runs.{Start, Fresh, startOf, now, StepFunction, By}
 use Rattle.history.specs.Demands.{Takes}
 use Rattle.history.specs.Code.{StartsAs, Meets, Coded}
 use Rattle.history.proofs.Following.{coded-ruled, now-good}
@@ -89,7 +91,7 @@ saving s buffer =
 
 -- So each call has a result that meets its promise.
 meets-some : (s : Schedule) → Good s → (call : Call) (lent : Lent) → (t : Result) × Meets s call lent t
-unfolding admit admitDone dropHandle dropDone report reportDone ownerOf anchor load loadDone
+unfolding admit admitDone dropHandle dropDone report reportDone reportAll reportsDone ownerOf anchor load loadDone
 meets-some s good (Admit h i f c) lent =
     let w = stands-outcome ofAdmission AdmissionRefused (λ why. refl) (admitChecks s h i f c) s (admitDone s h (kOf i) f c) (Placed _ _ _, refl) in
     let o = admit s h i f c in
@@ -104,6 +106,22 @@ meets-some s good (Report h sample) lent =
     (reporting (taken (s .connections)) (connection s h) sample) in
     let o = report s h sample in
     (_, (record { answer = w .0; schedule = o .schedule }, record { is = ap (whole o) (w .1); good = call-good s good (reports h sample) }, refl))
+meets-some s good (Reports xs) lent =
+    let checks = reportsChecks (length xs) (length (lent .list)) in
+    let w = stands ofReportingAll ReportingAllRefused (λ why. refl) checks (reported (length xs)) (Answered _, refl) in
+    let o = reportAll s xs (lent .list) in
+    let e = decided-map (λ (x : Listed). x .answer) checks (refusingList s (lent .list)) (reportsDone s xs (lent .list)) in (
+      _,
+      (
+        record { answer = w .0; schedule = o .schedule },
+        o .list,
+        record {
+          is = ap (λ (a : Answer). record { answer = a; schedule = o .schedule; list = o .list }) (w .1 ∙ sym e);
+          good = report-all-good s xs (lent .list) good;
+        },
+        refl,
+      ),
+    )
 meets-some s good (Owner b) lent = let w = owning (least handles (λ h. owns (connection s h) b)) in (_, (w .0, w .1, refl))
 meets-some s good (Anchor h b) lent =
     let w = stands ofDistance DistanceRefused (λ why. refl) (anchorChecks s h) (slots (slotsToAnchor (connection s h) b)) (Slots _, refl) in

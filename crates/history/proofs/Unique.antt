@@ -1,7 +1,7 @@
 -- Each public call has one outcome.
-use mathlib.Core.Path.{sym, _∙_}
 use Rattle.run.proofs.Calls.{starts-unique}
 use Rattle.schedule.proofs.Calls.{admit-unique, drop-unique, report-unique}
+use Rattle.reports.proofs.Calls.{report-all-unique}
 use Rattle.questions.proofs.Asked.{owner-unique, anchor-unique}
 use Rattle.image.proofs.Calls.{save-unique, load-unique}
 use Rattle.command.proofs.Calls.{run-unique, obey-unique}
@@ -14,6 +14,7 @@ one-outcome =
       admit = admit-unique;
       drop = drop-unique;
       report = report-unique;
+      reportAll = report-all-unique;
       owner = owner-unique;
       anchor = anchor-unique;
       save = save-unique;

@@ -3,9 +3,9 @@ use Prim.Native.Nat.{ℕ, zero, suc, _+_, _-_, _*_, _%_, _^_, _<_, _≤_}
 use mathlib.Core.Path.{_≡_}
 use mathlib.Core.Bool.{Bool, true, false, cond}
 use mathlib.Core.Logic.{_↔_}
-use mathlib.Core.List.{List, _++_}
+use mathlib.Core.List.{List}
 use lib.IntN.{pos}
-use lib.ListN.{length, drop}
+use lib.ListN.{length}
 use Rattle.rules.specs.declared.Schedule.{Schedule}
 use Rattle.rules.specs.declared.Connection.{Connection}
 use Rattle.rules.specs.declared.Refusal.{Refusal as Named}
@@ -17,6 +17,7 @@ use Rattle.rules.specs.Good.{treeFor}
 use Rattle.rules.specs.Refusals.{number}
 use Rattle.rules.specs.Handles.{connection, aboveHandles, isLive}
 use Rattle.rules.specs.Admit.{kOf, intervalOutside, shareWrong}
+use Rattle.rules.specs.Lent.{over}
 use Rattle.rules.specs.Image.{image, IsImage}
 use Rattle.rules.specs.Answers.{Answer, refused, ok, saved, loaded}
 use Rattle.history.specs.Calls.{Bytes, Save, Request, Result, ruled}
@@ -68,7 +69,7 @@ EventsMeant S =
 abbrev pub given : Run → Made → Result
 given run m = ruled (after (historyOf run)) (m .request)
 
--- the answer and every byte that was lent;
+-- the answer, and every byte and every number that was lent;
 abbrev pub ResultsGiven : System → Type 0
 ResultsGiven S = (run : Run) (m : Made) → S (more run m) → (m .result .answer ≡ given run m .answer) × (m .result .lent ≡ given run m .lent)
 
@@ -117,7 +118,7 @@ abbrev pub SavesImage : System → Type 0
 SavesImage S =
     (run : Run) (m : Made) → S (more run m) → m .request .call ≡ Save → length (image (now run)) ≤ length (m .request .lent .buffer)
     → (m .result .answer ≡ saved (length (image (now run))))
-    × (m .result .lent .buffer ≡ image (now run) ++ drop (length (image (now run))) (m .request .lent .buffer))
+    × (m .result .lent .buffer ≡ over (image (now run)) (m .request .lent .buffer))
 
 -- and that is what was restored, where that has the form in which images are saved: as every image has today.
 abbrev pub SavedForm : List ℕ → Type 0
@@ -136,7 +137,7 @@ SavesBack S =
     → RestoreOf (m .request .call) bytes → m .result .answer ≡ loaded n
     → save .request .call ≡ Save → length (bytes .list) ≤ length (save .request .lent .buffer)
     → (save .result .answer ≡ saved (length (bytes .list)))
-    × (save .result .lent .buffer ≡ bytes .list ++ drop (length (bytes .list)) (save .request .lent .buffer))
+    × (save .result .lent .buffer ≡ over (bytes .list) (save .request .lent .buffer))
 
 pub record Demand2 (S : System) : Type 0 where
   pub intervals : IntervalsMeant S

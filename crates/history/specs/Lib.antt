@@ -4,6 +4,7 @@ pub mod Runs
 pub mod Moments
 pub mod Demands
 pub mod Code
+pub mod Singly
 pub mod Versions
 pub mod Said
 pub mod OneOutcome

@@ -5,12 +5,14 @@ use mathlib.Core.Bool.{true}
 use mathlib.Core.List.{List, [], _∷_}
 use lib.ListN.{length}
 use Rattle.rules.specs.declared.Schedule.{Schedule}
+use Rattle.rules.specs.declared.Report.{Report as ReportOfList}
 use Rattle.rules.specs.Ownership.{handles}
 use Rattle.rules.specs.Sound.{sound}
 use Rattle.rules.specs.Handles.{connection}
+use Rattle.rules.specs.Reports.{Among}
 use Rattle.rules.specs.Image.{IsImage}
 use Rattle.rules.specs.Answers.{Answer, ok, dropped, loaded}
-use Rattle.history.specs.Calls.{Bytes, Call, Admit, Drop, Report, Load}
+use Rattle.history.specs.Calls.{Bytes, Call, Admit, Drop, Report, Reports, Load}
 use Rattle.history.specs.Runs.{Made, Run, more, followed}
 
 -- ---- what a call asks for
@@ -22,9 +24,10 @@ AdmissionOf call x interval floor ceiling = call ≡ Admit x interval floor ceil
 abbrev pub DropOf : Call → ℕ → Type 0
 DropOf call x = call ≡ Drop x
 
--- "its own report",
-abbrev pub ReportOf : Call → ℕ → Type 0
-ReportOf call x = (sample : ℕ) × (call ≡ Report x sample)
+-- "its own report": a single one, or one in a list,
+pub data ReportOf (call : Call) (x : ℕ) : Type 0 where
+  single : (sample : ℕ) → call ≡ Report x sample → ReportOf call x
+  listed : (reports : List ReportOfList) → call ≡ Reports reports → Among x reports → ReportOf call x
 
 -- a restore of bytes.
 abbrev pub RestoreOf : Call → Bytes → Type 0

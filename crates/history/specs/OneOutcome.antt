@@ -7,13 +7,16 @@ use Rattle.rules.specs.declared.Command.{Command}
 use Rattle.rules.specs.declared.Obeyed.{Obeyed}
 use Rattle.rules.specs.declared.Admitted.{Admitted}
 use Rattle.rules.specs.declared.Dropped.{Dropped}
+use Rattle.rules.specs.declared.Report.{Report}
 use Rattle.rules.specs.declared.Reported.{Reported}
+use Rattle.rules.specs.declared.ReportedAll.{ReportedAll}
 use Rattle.rules.specs.declared.Ownership.{Ownership}
 use Rattle.rules.specs.declared.Distance.{Distance}
 use Rattle.rules.specs.declared.Saving.{Saving}
 use Rattle.rules.specs.declared.Loaded.{Loaded}
 use Rattle.run.specs.Promises.{Starts}
 use Rattle.schedule.specs.Promises.{Admits, Drops, Reports}
+use Rattle.reports.specs.Promises.{ReportsAll}
 use Rattle.questions.specs.Promises.{OwnerSays, AnchorSays}
 use Rattle.image.specs.Promises.{Saves, Loads}
 use Rattle.command.specs.declared.Output.{Output}
@@ -25,6 +28,8 @@ pub record OneOutcome : Type 0 where
       → Admits s handle interval floor ceiling a → Admits s handle interval floor ceiling b → a ≡ b
   pub drop : (s : Schedule) (handle : ℕ) (a b : Dropped) → Drops s handle a → Drops s handle b → a ≡ b
   pub report : (s : Schedule) (handle sample : ℕ) (a b : Reported) → Reports s handle sample a → Reports s handle sample b → a ≡ b
+  pub reportAll : (s : Schedule) (reports : List Report) (list x y : List ℕ) (a b : ReportedAll)
+      → ReportsAll s reports list x a → ReportsAll s reports list y b → (a ≡ b) × (x ≡ y)
   pub owner : (s : Schedule) (block : ℕ) (a b : Ownership) → OwnerSays s block a → OwnerSays s block b → a ≡ b
   pub anchor : (s : Schedule) (handle block : ℕ) (a b : Distance)
       → AnchorSays s handle block a → AnchorSays s handle block b → a ≡ b

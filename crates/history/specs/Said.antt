@@ -14,7 +14,7 @@ use Rattle.rules.specs.Commands.{says}
 use Rattle.rules.specs.Program.{mostInput}
 use Rattle.command.specs.declared.Output.{Output}
 use Rattle.command.specs.Promises.{Runs}
-use Rattle.history.specs.Calls.{Call, Admit, Drop, Report, Owner, Anchor, Request, ruledCall, ruled}
+use Rattle.history.specs.Calls.{Call, Admit, Drop, Report, Owner, Anchor, nothing, Request, ruledCall, ruled}
 use Rattle.history.specs.Runs.{Fresh, History, begin, next, after}
 
 -- The call of a command, with nothing lent.
@@ -26,7 +26,7 @@ callOf (OwnerCommand block) = Owner block
 callOf (AnchorCommand handle block) = Anchor handle block
 
 abbrev pub requestOf : Command → Request
-requestOf c = record { call = callOf c; lent = record { buffer = [] } }
+requestOf c = record { call = callOf c; lent = nothing }
 
 -- The history after a line: one that says a command is in it, and no other.
 abbrev pub heard : History → Line → History

@@ -3,19 +3,21 @@
 use Prim.Native.Nat.{ℕ, _+_, _%_, _^_}
 use mathlib.Core.Path.{_≡_}
 use mathlib.Core.Bool.{Bool, true, false, cond, _&&_}
+use mathlib.Core.List.{List, [], _∷_}
 use lib.Dec.{eqb}
 use lib.ListN.{set, getD, length, replicate}
 use Rattle.rules.specs.declared.Schedule.{Schedule}
 use Rattle.rules.specs.declared.Connection.{Connection}
+use Rattle.rules.specs.declared.Report.{Report as ReportOfList}
 use Rattle.rules.specs.declared.Refusal.the-variants.{HandleAbove63}
 use Rattle.rules.specs.Good.{withConnection}
 use Rattle.rules.specs.Refusals.{number}
 use Rattle.rules.specs.Handles.{connection, isLive}
-use Rattle.rules.specs.Answers.{Answer, refused, ok, dropped, kept, grown, shrunk, tight, owner, idle, slots, saved, loaded}
+use Rattle.rules.specs.Answers.{Answer, refused, ok, dropped, kept, grown, shrunk, tight, owner, idle, slots, saved, loaded, reported}
 use Rattle.rules.specs.Admit.{kOf, newConnection}
 use Rattle.rules.specs.Drop.{dropHandle}
 use Rattle.rules.specs.Report.{metered}
-use Rattle.history.specs.Calls.{Bytes, Call, Admit, Drop, Report, Owner, Anchor, Save, Load, Lent, Request, Result, ruledCall, ruled}
+use Rattle.history.specs.Calls.{Call, Admit, Drop, Report, Reports, Owner, Anchor, Save, Load, Request, Result, written, ruled}
 use Rattle.history.specs.Runs.{StepFunction}
 
 -- ---- the rule's result, but for one kind of call
@@ -23,6 +25,7 @@ abbrev onAdmit : (ℕ → ℕ → ℕ → ℕ → Result → Result) → Call �
 onAdmit f (Admit x i floor ceiling) it = f x i floor ceiling it
 onAdmit f (Drop x) it = it
 onAdmit f (Report x sample) it = it
+onAdmit f (Reports reports) it = it
 onAdmit f (Owner b) it = it
 onAdmit f (Anchor x b) it = it
 onAdmit f Save it = it
@@ -32,15 +35,22 @@ abbrev onDrop : (Result → Result) → Call → Result → Result
 onDrop f (Admit x i floor ceiling) it = it
 onDrop f (Drop x) it = f it
 onDrop f (Report x sample) it = it
+onDrop f (Reports reports) it = it
 onDrop f (Owner b) it = it
 onDrop f (Anchor x b) it = it
 onDrop f Save it = it
 onDrop f (Load bytes) it = it
 
+-- A list of reports is a report of each.
+abbrev onEach : (ℕ → Result → Result) → List ReportOfList → Result → Result
+onEach f [] it = it
+onEach f (r ∷ reports) it = onEach f reports (f (r .handle) it)
+
 abbrev onReport : (ℕ → Result → Result) → Call → Result → Result
 onReport f (Admit x i floor ceiling) it = it
 onReport f (Drop x) it = it
 onReport f (Report x sample) it = f x it
+onReport f (Reports reports) it = onEach f reports it
 onReport f (Owner b) it = it
 onReport f (Anchor x b) it = it
 onReport f Save it = it
@@ -50,6 +60,7 @@ abbrev onOwner : (Result → Result) → Call → Result → Result
 onOwner f (Admit x i floor ceiling) it = it
 onOwner f (Drop x) it = it
 onOwner f (Report x sample) it = it
+onOwner f (Reports reports) it = it
 onOwner f (Owner b) it = f it
 onOwner f (Anchor x b) it = it
 onOwner f Save it = it
@@ -59,6 +70,7 @@ abbrev onImage : (Result → Result) → (Result → Result) → Call → Result
 onImage save load (Admit x i floor ceiling) it = it
 onImage save load (Drop x) it = it
 onImage save load (Report x sample) it = it
+onImage save load (Reports reports) it = it
 onImage save load (Owner b) it = it
 onImage save load (Anchor x b) it = it
 onImage save load Save it = save it
@@ -78,6 +90,7 @@ accepted idle = true
 accepted (slots n) = true
 accepted (saved n) = true
 accepted (loaded n) = true
+accepted (reported n) = true
 
 abbrev leaving : Schedule → Result → Result
 leaving s it = record { answer = it .answer; schedule = s; lent = it .lent }
@@ -152,7 +165,7 @@ abbrev marking : Result → Result
 marking it = cond (accepted (it .answer)) (leaving (marked (it .schedule)) it) it
 
 abbrev blanked : Result → Result
-blanked it = record { answer = it .answer; schedule = it .schedule; lent = record { buffer = replicate (length (it .lent .buffer)) 0 } }
+blanked it = written (it .lent) (it .schedule) (record { answer = it .answer; buffer = replicate (length (it .lent .buffer)) 0 })
 
 abbrev pub losesBackups : StepFunction
 losesBackups s r = onImage (λ it. cond (accepted (it .answer) && eqb (firstByte s % 2) 0) (blanked it) it) marking (r .call) (ruled s r)
