@@ -5,8 +5,8 @@
  * Every number and every byte that a call is given is answered by the rule sheet. What the caller must keep to, as nothing checks it:
  *  - a struct beak is all zeros, or what beak_fresh gave, or what a call left, or a copy of such a one: nobody else writes its bytes;
  *  - one call at a time on a struct beak: no other thread reads or writes it meanwhile;
- *  - as long as a call runs, its image can be read and its buffer written, and neither overlaps the other or the schedule;
- *  - to an export itself the pointer of an image or a buffer is not null, even for no bytes: the functions on a pointer see to that.
+ *  - as long as a call runs, its image or reports can be read and its buffer or answers written, and none overlaps another or the schedule;
+ *  - to an export itself the pointer of what is lent is not null, even for nothing: the functions on a pointer see to that.
  */
 #ifndef BEAK_H
 #define BEAK_H
@@ -29,21 +29,27 @@ struct beak {
 
 /* What a call says: its kind, and the kind's values in the order in which they stand here; the others are 0. */
 enum beak_kind {
-    BEAK_REFUSED = 1, /* the refusal's number */
-    BEAK_PLACED = 2,  /* factor, anchor, length */
+    BEAK_REFUSED = 1,  /* the refusal's number */
+    BEAK_PLACED = 2,   /* factor, anchor, length */
     BEAK_DROPPED = 3,
-    BEAK_KEPT = 4,    /* length */
-    BEAK_GROWN = 5,   /* length */
-    BEAK_SHRUNK = 6,  /* length */
-    BEAK_TIGHT = 7,   /* length */
-    BEAK_OWNER = 8,   /* handle */
+    BEAK_KEPT = 4,     /* length */
+    BEAK_GROWN = 5,    /* length */
+    BEAK_SHRUNK = 6,   /* length */
+    BEAK_TIGHT = 7,    /* length */
+    BEAK_OWNER = 8,    /* handle */
     BEAK_IDLE = 9,
-    BEAK_SLOTS = 10,  /* slots */
-    BEAK_SAVED = 11,  /* size of the image in bytes */
-    BEAK_LOADED = 12  /* connections of the image */
+    BEAK_SLOTS = 10,   /* slots */
+    BEAK_SAVED = 11,   /* size of the image in bytes */
+    BEAK_LOADED = 12,  /* connections of the image */
+    BEAK_REPORTED = 13 /* how many reports were made */
 };
 struct beak_said {
     uint32_t kind, first, second, third;
+};
+
+/* A report of a list: whose, and the microseconds that it used in its last run. */
+struct beak_sample {
+    uint32_t handle, sample;
 };
 
 /* ---- what the archive has: a schedule by value, and the one that the call leaves beside what it says */
@@ -55,12 +61,15 @@ struct beak_called {
 BEAK_HOLDS(sizeof(size_t) == 8 && sizeof(void *) == 8);
 BEAK_HOLDS(sizeof(struct beak) == 1152 && BEAK_ALIGNMENT(struct beak) == 4);
 BEAK_HOLDS(sizeof(struct beak_said) == 16 && BEAK_ALIGNMENT(struct beak_said) == 4);
+BEAK_HOLDS(sizeof(struct beak_sample) == 8 && BEAK_ALIGNMENT(struct beak_sample) == 4);
 BEAK_HOLDS(sizeof(struct beak_called) == 1168 && offsetof(struct beak_called, schedule) == 16);
 
 struct beak beak_fresh(void);
 struct beak_called beak_admitted(struct beak s, uint32_t handle, uint32_t interval, uint32_t floor, uint32_t ceiling);
 struct beak_called beak_dropped(struct beak s, uint32_t handle);
 struct beak_called beak_reported(struct beak s, uint32_t handle, uint32_t sample);
+/* the numbers are handle, sample, handle, sample, and so many of them; a last odd one is none */
+struct beak_called beak_reported_all(struct beak s, const uint32_t *numbers, size_t count, uint32_t *answers, size_t entries);
 struct beak_called beak_loaded(struct beak s, const uint8_t *bytes, size_t size);
 struct beak_said beak_saved(struct beak s, uint8_t *buffer, size_t room);
 struct beak_said beak_owned(struct beak s, uint32_t block);
@@ -91,6 +100,27 @@ static inline struct beak_said beak_report(struct beak *s, uint32_t handle, uint
     struct beak_called r = beak_reported(*s, handle, sample);
     *s = r.schedule;
     return r.said;
+}
+
+/* Make these reports one after the other, each with its answer as an entry: REPORTED. Entries past the reports stay as they were. Refused, before
+ * any report: 13 more than 64 reports, 14 fewer entries than reports. Of more than 65 the first 65 are handed on, which is refused the same. */
+static inline struct beak_said beak_report_all(struct beak *s, const struct beak_sample *reports, size_t count, uint32_t *answers, size_t entries) {
+    const uint32_t no_number = 0;
+    uint32_t no_entry = 0;
+    size_t first = count < 65 ? count : 65;
+    struct beak_called r = beak_reported_all(*s, first != 0 ? &reports->handle : &no_number, 2 * first, entries != 0 ? answers : &no_entry, entries);
+    *s = r.schedule;
+    return r.said;
+}
+
+/* What a report of the list says, by its entry: the refusal's number, or 65,536 (KEPT), 131,072 (GROWN), 196,608 (SHRUNK) or 262,144 (TIGHT) plus
+ * the length. Kind 0, which is no answer, of 0 and of 327,680 and above: no report has such an entry. */
+static inline struct beak_said beak_entry(uint32_t entry) {
+    struct beak_said r = {0, 0, 0, 0};
+    if (entry == 0 || entry >= 327680) return r;
+    r.kind = entry < 65536 ? (uint32_t)BEAK_REFUSED : BEAK_KEPT - 1 + entry / 65536;
+    r.first = entry % 65536;
+    return r;
 }
 
 /* Load an image in place of the schedule: LOADED. Refused: 9 records wrong, 10 numbers not sound, 11 a block owned twice, 12 tree bytes wrong. */

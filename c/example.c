@@ -1,4 +1,4 @@
-/* The rule sheet's whole case, call by call; then a save, a fresh start, and a load of those bytes. */
+/* The rule sheet's whole case, call by call; then a save, a fresh start, and a load of those bytes; and reports of a whole cycle at once. */
 #include <stdbool.h>
 #include <stdio.h>
 #include <string.h>
@@ -51,6 +51,29 @@ static void save_and_load(void) {
     expect(memcmp(&house, &other, sizeof house) == 0, "what was saved and loaded is the same, byte by byte");
 }
 
+/* Of three reports the second is of a handle that is not live, and the third of the same as the first; a fourth entry is left over. */
+static void reports_at_once(void) {
+    const struct beak_sample cycle[3] = {{0, 7500}, {9, 0}, {0, 7500}};
+    const uint32_t before = 0xA5A5A5A5;
+    uint32_t answers[4] = {before, before, before, before};
+    struct beak other;
+    beak_start(&other);
+    told("admit 0 48 1 4     ok 8 0 1", beak_admit(&other, 0, 48, 1, 4), BEAK_PLACED, 8, 0, 1);
+    told("no reports         reported 0", beak_report_all(&other, NULL, 0, NULL, 0), BEAK_REPORTED, 0, 0, 0);
+    told("3 reports into 2   no 14", beak_report_all(&other, cycle, 3, answers, 2), BEAK_REFUSED, 14, 0, 0);
+    expect(answers[0] == before && answers[1] == before, "a refused list leaves the entries as they were");
+    told("3 reports into 4   reported 3", beak_report_all(&other, cycle, 3, answers, 4), BEAK_REPORTED, 3, 0, 0);
+    expect(answers[0] == 131074 && answers[1] == 3 && answers[2] == 65538, "the entries are 131074, 3 and 65538");
+    expect(answers[3] == before, "the entry past the reports is as it was");
+    told("entry 131074       grown 2", beak_entry(answers[0]), BEAK_GROWN, 2, 0, 0);
+    told("entry 3            no 3", beak_entry(answers[1]), BEAK_REFUSED, 3, 0, 0);
+    told("entry 65538        kept 2", beak_entry(answers[2]), BEAK_KEPT, 2, 0, 0);
+    told("entry 196609       shrunk 1", beak_entry(196609), BEAK_SHRUNK, 1, 0, 0);
+    told("entry 262656       tight 512", beak_entry(262656), BEAK_TIGHT, 512, 0, 0);
+    told("entry 0            none", beak_entry(0), 0, 0, 0, 0);
+    told("entry as it was    none", beak_entry(before), 0, 0, 0, 0);
+}
+
 /* A schedule of zeros is the fresh one: proved of its fields, and compared here byte by byte. */
 static void zeros_are_fresh(void) {
     struct beak fresh, zeros;
@@ -64,6 +87,7 @@ int main(void) {
     zeros_are_fresh();
     whole_case();
     save_and_load();
+    reports_at_once();
     puts(right ? "as the rule sheet has it" : "NOT as the rule sheet has it");
     return right ? 0 : 1;
 }

@@ -5,11 +5,13 @@
 #include <string.h>
 #include "beak.h"
 
-enum { LONGEST_SCRIPT = 65536, LARGEST_BUFFER = 2048, CONNECTION_KIND = 2 };
+enum { LONGEST_SCRIPT = 65536, LARGEST_BUFFER = 2048, LONGEST_LIST = 128, CONNECTION_KIND = 2 };
 
 static struct beak s; /* static, so all zeros: fresh */
 static char script[LONGEST_SCRIPT + 1];
 static uint8_t bytes[LONGEST_SCRIPT / 2];
+static struct beak_sample list[LONGEST_LIST];
+static uint32_t answers[LONGEST_LIST];
 
 #ifdef BEAK_COUNTED
 #include <unistd.h>
@@ -44,10 +46,13 @@ static bool number(struct rest *r, uint32_t *n) {
     return r->at != start && value <= UINT32_MAX && (*start != '0' || r->at - start == 1);
 }
 
+/* A number after one space. */
+static bool spaced(struct rest *r, uint32_t *n) { return passes(r, " ") && number(r, n); }
+
 /* So many numbers, one space before each, and then the line's end. */
 static bool numbers(struct rest r, int count, uint32_t *n) {
     while (count-- > 0)
-        if (!passes(&r, " ") || !number(&r, n++)) return false;
+        if (!spaced(&r, n++)) return false;
     return ends(r);
 }
 
@@ -87,6 +92,7 @@ static const char *word(uint32_t kind) {
     case BEAK_SLOTS: return "slots";
     case BEAK_SAVED: return "saved";
     case BEAK_LOADED: return "loaded";
+    case BEAK_REPORTED: return "reported";
     }
     return "?";
 }
@@ -178,9 +184,25 @@ static bool load(struct rest r) {
     return true;
 }
 
+static bool reports(struct rest r) {
+    uint32_t room;
+    size_t count = 0;
+    if (!spaced(&r, &room) || room > LONGEST_LIST) return false;
+    for (; !ends(r); count++)
+        if (count == LONGEST_LIST || !spaced(&r, &list[count].handle) || !spaced(&r, &list[count].sample)) return false;
+    memset(answers, 0xA5, sizeof answers);
+    mark();
+    struct beak_said said = beak_report_all(&s, list, count, answers, room);
+    mark();
+    print(said);
+    for (uint32_t i = 0; i < room; i++) printf(" %u", answers[i]);
+    return true;
+}
+
 static bool line(struct rest r) {
     if (passes(&r, "save")) return save(r);
     if (passes(&r, "load")) return load(r);
+    if (passes(&r, "reports")) return reports(r);
     if (passes(&r, "state")) {
         if (ends(r)) print_state();
         return ends(r);

@@ -9,6 +9,8 @@ enum { PAINT = 0xA5 };
 
 static struct beak s;
 static struct beak_said said;
+static struct beak_sample cycle[64];
+static uint32_t answers[64];
 static uint8_t image[1290], painted[65536];
 static size_t size;
 static ucontext_t here, there;
@@ -19,6 +21,7 @@ static void admit_longest(void) { said = beak_admit(&s, 0, 3072, 512, 512); }
 static void admit_half(void) { said = beak_admit(&s, 0, 12, 1, 2); }
 static void drop(void) { said = beak_drop(&s, 0); }
 static void report(void) { said = beak_report(&s, 0, 7500); }
+static void report_all(void) { said = beak_report_all(&s, cycle, 64, answers, 64); }
 static void owner(void) { said = beak_owner(&s, 511); }
 static void anchor(void) { said = beak_anchor(&s, 63, 7); }
 static void load(void) { said = beak_load(&s, image, size); }
@@ -32,6 +35,11 @@ static void fresh(void) { beak_start(&s); }
 static void fill(void) {
     fresh();
     for (uint32_t handle = 0; handle < 64; handle++) said = beak_admit(&s, handle, 3072, 8, 8);
+}
+
+/* All of one handle, of which the first grows. */
+static void gather(void) {
+    for (uint32_t i = 0; i < 64; i++) cycle[i].sample = 7500;
 }
 
 static size_t touched(void (*call)(void)) {
@@ -62,6 +70,10 @@ int main(void) {
     fresh();
     admit_half();
     measure("report", "grown, half of the tree", report);
+    fresh();
+    admit_half();
+    gather();
+    measure("reports", "64, the first grown, half of the tree", report_all);
     fill();
     measure("owner", "64 live", owner);
     measure("anchor", "of a live connection", anchor);

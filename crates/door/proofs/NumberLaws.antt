@@ -4,12 +4,12 @@ use mathlib.Core.Path.{_≡_, refl, sym, ap, _∙_}
 use mathlib.Core.Bool.{cond}
 use mathlib.Core.List.{List}
 use lib.Dec.{eqb}
-use Rattle.rules.specs.Answers.{Answer, Outcome, refused, ok, dropped, kept, grown, shrunk, tight, owner, idle, slots, saved, loaded}
+use Rattle.rules.specs.Answers.{Answer, Outcome, Listed, refused, ok, dropped, kept, grown, shrunk, tight, owner, idle, slots, saved, loaded, reported}
 use Rattle.rules.specs.Save.{Written}
 use Rattle.door.specs.declared.Said.{Said}
 use Rattle.door.specs.declared.Called.{Called}
 use Rattle.door.specs.Numbers.{inNumbers, InNumbers}
-use Rattle.door.specs.Promises.{Leaves, Writes}
+use Rattle.door.specs.Promises.{Leaves, Lists, Writes, withoutList}
 
 -- The answer that numbers are of.
 unfoldable readBack : Said → Answer
@@ -25,7 +25,8 @@ readBack s =
     cond (eqb (s .kind) 9) idle (
     cond (eqb (s .kind) 10) (slots (s .first)) (
     cond (eqb (s .kind) 11) (saved (s .first)) (
-    loaded (s .first))))))))))))
+    cond (eqb (s .kind) 12) (loaded (s .first)) (
+    reported (s .first)))))))))))))
 
 read-back : (a : Answer) → readBack (inNumbers a) ≡ a
 unfolding readBack
@@ -41,6 +42,7 @@ read-back idle = refl
 read-back (slots n) = refl
 read-back (saved n) = refl
 read-back (loaded n) = refl
+read-back (reported n) = refl
 
 -- Of all answers, whatever their values.
 pub in-numbers-injective : (a b : Answer) → inNumbers a ≡ inNumbers b → a ≡ b
@@ -54,12 +56,15 @@ says-injective a b r p q = in-numbers-injective a b (sym p ∙ q)
 pub says-case : {A : Type 0} (of : A → Answer) {a case : A} {r : Said} → a ≡ case → InNumbers (of case) r → InNumbers (of a) r
 says-case of e p = p ∙ ap (λ x. inNumbers (of x)) (sym e)
 
--- ---- two results that meet a statement are equal, the buffer too
+-- ---- two results that meet a statement are equal, the list and the buffer too
 pub says-unique : (a : Answer) (r t : Said) → InNumbers a r → InNumbers a t → r ≡ t
 says-unique a r t p q = p ∙ sym q
 
 pub leaves-unique : (o : Outcome) (r t : Called) → Leaves o r → Leaves o t → r ≡ t
 leaves-unique o r t p q = p .is ∙ sym (q .is)
+
+pub lists-unique : (o : Listed) (x y : List ℕ) (r t : Called) → Lists o x r → Lists o y t → (r ≡ t) × (x ≡ y)
+lists-unique o x y r t p q = (leaves-unique (withoutList o) r t (p .leaves) (q .leaves), p .list ∙ sym (q .list))
 
 pub writes-unique : (w : Written) (x y : List ℕ) (r t : Said) → Writes w x r → Writes w y t → (r ≡ t) × (x ≡ y)
 writes-unique w x y r t p q = (says-unique (w .answer) r t (p .says) (q .says), p .bytes ∙ sym (q .bytes))

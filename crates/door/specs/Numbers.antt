@@ -1,7 +1,7 @@
 -- An answer in numbers.
 use Prim.Native.Nat.{ℕ}
 use mathlib.Core.Path.{_≡_}
-use Rattle.rules.specs.Answers.{Answer, refused, ok, dropped, kept, grown, shrunk, tight, owner, idle, slots, saved, loaded}
+use Rattle.rules.specs.Answers.{Answer, refused, ok, dropped, kept, grown, shrunk, tight, owner, idle, slots, saved, loaded, reported}
 use Rattle.door.specs.declared.Said.{Said}
 
 -- A kind and three values.
@@ -22,6 +22,7 @@ inNumbers idle = saidAs 9 0 0 0
 inNumbers (slots n) = saidAs 10 n 0 0
 inNumbers (saved n) = saidAs 11 n 0 0
 inNumbers (loaded n) = saidAs 12 n 0 0
+inNumbers (reported n) = saidAs 13 n 0 0
 
 -- What is said is the answer, in numbers.
 abbrev pub InNumbers : Answer → Said → Type 0

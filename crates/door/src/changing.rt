@@ -4,12 +4,16 @@ ghost use Rattle.rules.specs.Good.{Good};
 ghost use Rattle.rules.specs.Admit.{admit as admitRule};
 ghost use Rattle.rules.specs.Drop.{dropHandle};
 ghost use Rattle.rules.specs.Report.{report as reportRule};
+ghost use Rattle.rules.specs.Reports.{reportAll};
 ghost use Rattle.run.specs.Promises.{Starts};
-ghost use Rattle.door.specs.Promises.{Leaves};
+ghost use Rattle.reports.specs.Pairs.{reportsOf};
+ghost use Rattle.door.specs.Promises.{Leaves, Lists};
 use crate::Called;
 use crate::saying::admission;
 use crate::saying::dropping;
 use crate::saying::reporting;
+use crate::saying::reporting_all;
+use reports::report_pairs;
 use rules::Schedule;
 use schedule::admit;
 use schedule::drop;
@@ -65,6 +69,19 @@ pub extern "C" fn beak_reported(s: Schedule, handle: u32, sample: u32) -> Called
     let done = report(s, handle, sample);
     let answer = done.answer;
     let said = reporting(answer);
+    let schedule = done.schedule;
+    Called { said, schedule }
+}
+
+/// The reports that numbers say: handle, sample, handle, sample. A slice of reports would be one more proof by hand.
+#[no_mangle]
+pub extern "C" fn beak_reported_all(s: Schedule, numbers: &[u32], answers: &mut [u32]) -> Called
+    requires { ⌜ Good s ⌝ }
+    ensures { λ r. ⌜ Lists (reportAll s (reportsOf (now (numbers .entry))) (now (answers .entry))) (now (answers .exit)) r ⌝ }
+{
+    let done = report_pairs(s, numbers, answers);
+    let answer = done.answer;
+    let said = reporting_all(answer);
     let schedule = done.schedule;
     Called { said, schedule }
 }

@@ -11,6 +11,7 @@ pub use changing::beak_admitted;
 pub use changing::beak_dropped;
 pub use changing::beak_fresh;
 pub use changing::beak_reported;
+pub use changing::beak_reported_all;
 pub use imaging::beak_loaded;
 pub use imaging::beak_saved;
 use rules::Schedule;

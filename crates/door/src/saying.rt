@@ -1,7 +1,7 @@
 //! What each answer is in numbers.
 ghost use mathlib.Core.Path.{_≡_};
 ghost use Rattle.rules.specs.Refusals.{number};
-ghost use Rattle.rules.specs.Answers.{refused as refusedWith, saved as savedAs, ofAdmission, ofDropping, ofReporting, ofOwnership, ofDistance, ofLoading};
+ghost use Rattle.rules.specs.Answers.{refused as refusedWith, saved as savedAs, ofAdmission, ofDropping, ofReporting, ofReportingAll, ofOwnership, ofDistance, ofLoading};
 ghost use Rattle.door.specs.Numbers.{saidAs, InNumbers};
 use crate::Said;
 use rules::Admission;
@@ -11,6 +11,7 @@ use rules::Loading;
 use rules::Ownership;
 use rules::Refusal;
 use rules::Reporting;
+use rules::ReportingAll;
 use text::refusal_number;
 
 // The kinds of an answer, numbered for ever: a later one comes at the end.
@@ -37,6 +38,8 @@ const SLOTS: u32 = 10;
 const SAVED: u32 = 11;
 
 const LOADED: u32 = 12;
+
+const REPORTED: u32 = 13;
 
 // An answer with one value, or with none.
 fn say(kind: u32, first: u32) -> Said
@@ -92,6 +95,15 @@ pub fn reporting(answer: Reporting) -> Said
         Reporting::Shrunk(length) => say(SHRUNK, length as u32),
         Reporting::Tight(length) => say(TIGHT, length as u32),
         Reporting::Refused(r) => refused(r),
+    }
+}
+
+pub fn reporting_all(answer: ReportingAll) -> Said
+    ensures { λ r. ⌜ InNumbers (ofReportingAll answer) r ⌝ }
+{
+    match answer {
+        ReportingAll::Answered(n) => say(REPORTED, n as u32),
+        ReportingAll::Refused(r) => refused(r),
     }
 }
 
