@@ -1,7 +1,7 @@
 //! The words of an answer, written at a place, and its line.
 ghost use Prim.Native.Nat.{_+_, _≤_};
 ghost use lib.ListN.{length};
-ghost use Rattle.rules.specs.Answers.{ok, ofAdmission, ofDropping, ofReporting, ofOwnership, ofDistance, ofSaving, ofLoading, ofReply};
+ghost use Rattle.rules.specs.Answers.{ok, ofAdmission, ofDropping, ofReporting, ofReportingAll, ofOwnership, ofDistance, ofSaving, ofLoading, ofReply};
 ghost use Rattle.rules.specs.Words.{longestAnswer};
 ghost use Rattle.answer.specs.Promises.{PutsWords, PutsAnswer, SizeFits};
 use rules::Admission;
@@ -11,6 +11,7 @@ use rules::Loading;
 use rules::Ownership;
 use rules::Reply;
 use rules::Reporting;
+use rules::ReportingAll;
 use rules::Saving;
 use text::put_count;
 use text::put_refused;
@@ -103,6 +104,17 @@ pub fn put_loading(out: &mut [u8], at: usize, answer: Loading) -> usize
     match answer {
         Loading::Count(n) => put_count(out, at, b"loaded", n as u32),
         Loading::Refused(r) => put_refused(out, at, r),
+    }
+}
+
+/// The words of a list of reports' answer.
+pub fn put_reporting_all(out: &mut [u8], at: usize, answer: ReportingAll) -> usize
+    requires { ⌜ at + longestAnswer ≤ length (now out) ⌝ }
+    ensures { λ r. ⌜ PutsWords (now (out .entry)) at (ofReportingAll answer) (now (out .exit)) r ⌝ }
+{
+    match answer {
+        ReportingAll::Answered(n) => put_count(out, at, b"reported", n as u32),
+        ReportingAll::Refused(r) => put_refused(out, at, r),
     }
 }
 

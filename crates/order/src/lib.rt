@@ -1,4 +1,4 @@
-//! What a line of a script asks for.
+//! What a line of a script asks for; and the type of what performing it leaves.
 ghost use mathlib.Core.Path.{_≡_};
 ghost use mathlib.Core.Bool.{true};
 ghost use Prim.Native.Nat.{_*_, _≤_};
@@ -11,6 +11,7 @@ use hex::read_hex;
 use line::says;
 use rules::Command;
 use rules::Line;
+use rules::Schedule;
 use text::Row;
 use text::is_word;
 use text::opens;
@@ -33,6 +34,12 @@ pub enum Order {
     Load(usize),
     State,
     Bad,
+}
+
+/// The schedule after a line, and how many bytes it printed.
+pub struct Performed {
+    pub schedule: Schedule,
+    pub count: usize,
 }
 
 // A save by itself, or into a buffer of so many bytes.

@@ -1,6 +1,6 @@
 -- What a save leaves in a buffer.
 use mathlib.Core.Path.{_≡_, refl, sym, ap, _∙_}
-use mathlib.Core.List.{List, _++_}
+use mathlib.Core.List.{List}
 use Prim.Native.Nat.{ℕ, _*_, _≤_}
 use native.Mathlib.Omega.{arith}
 use lib.ListN.{length, take, drop, length-append, length-drop, length-replicate}
@@ -14,6 +14,7 @@ use Rattle.rules.specs.Good.{Good}
 use Rattle.rules.specs.Text.{text}
 use Rattle.rules.specs.Words.{wordsOf}
 use Rattle.rules.specs.Answers.{ofSaving, refused, saved}
+use Rattle.rules.specs.Lent.{over}
 use Rattle.rules.specs.Image.{image}
 use Rattle.rules.specs.Save.{Written, saveChecks, saveDone, save}
 use Rattle.calls.proofs.RefusalLaws.{decided-cases}
@@ -39,7 +40,7 @@ pub holds-digits : {s : Schedule} {buffer : List ℕ} {n : ℕ} → Holds s buff
 holds-digits {s} {buffer} {n} h = hex-length (take n buffer) ∙ ap (λ (m : ℕ). 2 * m) (h .long)
 
 module _ (s : Schedule) (good : Good s) (entry exit : List ℕ) (large : 2048 ≤ length entry) where
-  wrote : save s entry ≡ record { answer = saved (length (image s)); buffer = image s ++ drop (length (image s)) entry }
+  wrote : save s entry ≡ record { answer = saved (length (image s)); buffer = over (image s) entry }
   wrote =
       let b = image-bounds s (good .places) in
       save-whole s entry (image s) refl (omega arith)

@@ -5,8 +5,8 @@ use mathlib.Core.List.{List}
 use Rattle.rules.specs.declared.Schedule.{Schedule}
 use Rattle.rules.specs.Good.{Good}
 use Rattle.text.specs.Promises.{Puts}
+use Rattle.order.specs.declared.Performed.{Performed}
 use Rattle.order.specs.Orders.{asks}
-use Rattle.script.specs.declared.Performed.{Performed}
 use Rattle.script.specs.Performing.{mostPrinted, performed}
 
 -- A line is performed: all that it prints, and the schedule afterwards; and the schedule is good again.

@@ -3,10 +3,3 @@
 mod performing;
 
 pub use performing::perform;
-use rules::Schedule;
-
-/// The schedule after a line, and how many bytes it printed.
-pub struct Performed {
-    pub schedule: Schedule,
-    pub count: usize,
-}

@@ -1,12 +1,11 @@
 -- `probe::perform_all` is safe and ends. The invariant: the schedule is good, and the buffers keep their sizes.
 use borrow.Author.Needs.{needs}
-use mathlib.Core.Path.{_≡_, sym, _∙_}
+use mathlib.Core.Path.{_≡_, sym}
 use Prim.Native.Nat.{_-_, _≤_}
 use native.Mathlib.Omega.{arith}
 use lib.ListN.{length, length-take, length-drop}
 use lib.Seq.{length-take-le}
 use Rattle.rules.specs.Good.{Good}
-use Rattle.text.proofs.Putting.{puts-length}
 use Rattle.text.proofs.Rows.{found-within}
 use Rattle.probe.proofs.perform_all.Statement.{statement}
 use Rattle.probe.proofs.perform_all.Tie as tie
@@ -35,31 +34,31 @@ write-all-requires c κs = search needs
 returns : tie.Need-returns Inv-loop μ-loop
 returns c = search needs
 
-sub-perform : tie.Need-sub-perform Inv-loop μ-loop
-sub-perform c = omega (arith, c .before .find .ensures)
+sub-perform-line : tie.Need-sub-perform-line Inv-loop μ-loop
+sub-perform-line c = omega (arith, c .before .find .ensures)
 
-part-perform-start : tie.Need-part-perform-start Inv-loop μ-loop
-part-perform-start c = omega (arith, c .before .find .ensures)
+part-perform-line-start : tie.Need-part-perform-line-start Inv-loop μ-loop
+part-perform-line-start c = omega (arith, c .before .find .ensures)
 
-part-perform-end : tie.Need-part-perform-end Inv-loop μ-loop
-part-perform-end c = omega (arith, c .before .find .ensures, found-within 10 (c .before .before .before .before .before .before .args .script .now) (c .before .before .before .loop .start) (c .before .before .before .loop .inv .0))
+part-perform-line-end : tie.Need-part-perform-line-end Inv-loop μ-loop
+part-perform-line-end c = omega (arith, c .before .find .ensures, found-within 10 (c .before .before .before .before .before .before .args .script .now) (c .before .before .before .loop .start) (c .before .before .before .loop .inv .0))
 
-slice-aggregate-perform : tie.Need-slice-aggregate-perform Inv-loop μ-loop
-slice-aggregate-perform c = search needs
+slice-aggregate-perform-line : tie.Need-slice-aggregate-perform-line Inv-loop μ-loop
+slice-aggregate-perform-line c = search needs
 
-slice-aggregate-perform-2 : tie.Need-slice-aggregate-perform-2 Inv-loop μ-loop
-slice-aggregate-perform-2 c = search needs
+slice-aggregate-perform-line-2 : tie.Need-slice-aggregate-perform-line-2 Inv-loop μ-loop
+slice-aggregate-perform-line-2 c = search needs
 
-perform-requires : tie.Need-perform-requires Inv-loop μ-loop
-perform-requires c κs =
+perform-line-requires : tie.Need-perform-line-requires Inv-loop μ-loop
+perform-line-requires c κs =
     let l = c .before .before .before .before .before .before .loop in
     (l .inv .1, simp (length-take, length-drop) (omega (arith, c .before .before .before .before .before .before .before .before .before .pre)), omega (arith, l .inv .2), omega (arith, l .inv .3))
 
 array-share-prefix-out : tie.Need-array-share-prefix-out Inv-loop μ-loop
-array-share-prefix-out c = omega (arith, c .before .before .perform .ensures .fits, c .before .before .before .before .before .before .before .before .before .loop .inv .3, puts-length (c .before .before .perform .ensures .prints))
+array-share-prefix-out c = omega (arith, c .before .before .perform-line .ensures .1, c .before .before .before .before .before .before .before .before .before .loop .inv .3, c .before .before .perform-line .kept)
 
 slice-aggregate-write-all-2 : tie.Need-slice-aggregate-write-all-2 Inv-loop μ-loop
-slice-aggregate-write-all-2 c = sym (length-take-le _ _ (omega (arith, c .before .before .before .perform .ensures .fits, c .before .before .before .before .before .before .before .before .before .before .loop .inv .3, puts-length (c .before .before .before .perform .ensures .prints))))
+slice-aggregate-write-all-2 c = sym (length-take-le _ _ (omega (arith, c .before .before .before .perform-line .ensures .1, c .before .before .before .before .before .before .before .before .before .before .loop .inv .3, c .before .before .before .perform-line .kept)))
 
 write-all-requires-2 : tie.Need-write-all-requires-2 Inv-loop μ-loop
 write-all-requires-2 c κs = search needs
@@ -74,7 +73,7 @@ loop-less : tie.Need-loop-less Inv-loop μ-loop
 loop-less c = omega (arith, c .before .before .before .before .before .before .before .before .before .before .before .find .ensures, c .before .before .before .before .before .before .before .before .before .before .before .before .loop-test .taken)
 
 loop-again : tie.Need-loop-again Inv-loop μ-loop
-loop-again c = (omega (arith, c .before .before .before .before .before .before .before .before .before .before .before .find .ensures, found-within 10 (c .before .before .before .before .before .before .before .before .before .before .before .before .before .before .before .before .args .script .now) (c .before .before .before .before .before .before .before .before .before .before .before .before .before .loop .start) (c .before .before .before .before .before .before .before .before .before .before .before .before .before .loop .inv .0), c .before .before .before .before .before .before .before .before .before .before .if1 .left), c .before .before .before .before .before .before .perform .ensures .good, search needs, puts-length (c .before .before .before .before .before .before .perform .ensures .prints) ∙ c .before .before .before .before .before .before .before .before .before .before .before .before .before .loop .inv .3)
+loop-again c = (omega (arith, c .before .before .before .before .before .before .before .before .before .before .before .find .ensures, found-within 10 (c .before .before .before .before .before .before .before .before .before .before .before .before .before .before .before .before .args .script .now) (c .before .before .before .before .before .before .before .before .before .before .before .before .before .loop .start) (c .before .before .before .before .before .before .before .before .before .before .before .before .before .loop .inv .0), c .before .before .before .before .before .before .before .before .before .before .if1 .left), c .before .before .before .before .before .before .perform-line .ensures .0, search needs, omega (arith, c .before .before .before .before .before .before .perform-line .kept, c .before .before .before .before .before .before .before .before .before .before .before .before .before .loop .inv .3))
 
 returns-3 : tie.Need-returns-3 Inv-loop μ-loop
 returns-3 c = search needs
@@ -91,12 +90,12 @@ perform-all-spec =
     slice-aggregate-write-all
     write-all-requires
     returns
-    sub-perform
-    part-perform-start
-    part-perform-end
-    slice-aggregate-perform
-    slice-aggregate-perform-2
-    perform-requires
+    sub-perform-line
+    part-perform-line-start
+    part-perform-line-end
+    slice-aggregate-perform-line
+    slice-aggregate-perform-line-2
+    perform-line-requires
     array-share-prefix-out
     slice-aggregate-write-all-2
     write-all-requires-2

@@ -1,0 +1,2 @@
+-- What a line asks for, and what it prints.
+pub mod AskedLaws
