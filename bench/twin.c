@@ -169,6 +169,25 @@ __attribute__((noinline)) static int report(struct schedule *s, uint32_t handle,
     return 0;
 }
 
+// ---- the list of reports
+
+enum { MOST_REPORTS = 64 };
+
+struct report {
+    uint32_t handle, sample;
+};
+
+__attribute__((noinline)) static int report_all(struct schedule *s, const struct report *reports, size_t count, uint32_t *answers, size_t entries) {
+    if (count > MOST_REPORTS) return 13;
+    if (entries < count) return 14;
+    for (size_t i = 0; i < count; i++) {
+        enum settled how;
+        int no = report(s, reports[i].handle, reports[i].sample, &how);
+        answers[i] = no != 0 ? (uint32_t)no : 65536u * (how + 1) + s->connections[reports[i].handle].length;
+    }
+    return 0;
+}
+
 // ---- owner, anchor
 
 static uint32_t minus_mod(uint32_t k, uint32_t a, uint32_t b) { return (a - b) & ((1u << k) - 1); }
@@ -290,6 +309,25 @@ static void mark(void) { (void)!write(1, "", 0); }
 
 static void tell(const char *line) { (void)!write(1, line, strlen(line)); }
 
+// A line `reports M H S H S ..`, after its word.
+static void perform_list(struct schedule *s, const char *line) {
+    static struct report reports[128];
+    static uint32_t list[128];
+    static char said[2048];
+    size_t entries = 0, count = 0;
+    int used = 0;
+    if (sscanf(line, "%zu%n", &entries, &used) == 1) line += used;
+    for (; sscanf(line, "%u %u%n", &reports[count].handle, &reports[count].sample, &used) == 2; line += used) count++;
+    memset(list, 0xA5, sizeof list);
+    mark();
+    int no = report_all(s, reports, count, list, entries);
+    mark();
+    int at = no == 0 ? sprintf(said, "reported %zu", count) : sprintf(said, "no %d", no);
+    for (size_t i = 0; i < entries; i++) at += sprintf(said + at, " %u", list[i]);
+    sprintf(said + at, "\n");
+    tell(said);
+}
+
 static void perform(struct schedule *s, char *line) {
     static const char *const words[] = {"kept", "grown", "shrunk", "tight"};
     char said[64];
@@ -350,6 +388,11 @@ int main(void) {
     static struct schedule s;
     size_t n = 0;
     for (ssize_t got; (got = read(0, script + n, sizeof script - 1 - n)) > 0;) n += got;
-    for (char *line = strtok(script, "\n"); line != NULL; line = strtok(NULL, "\n")) perform(&s, line);
+    for (char *line = strtok(script, "\n"); line != NULL; line = strtok(NULL, "\n")) {
+        if (strncmp(line, "reports ", 8) == 0)
+            perform_list(&s, line + 8);
+        else
+            perform(&s, line);
+    }
     return 0;
 }

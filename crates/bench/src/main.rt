@@ -1,24 +1,38 @@
 //! Performs a script as the probe does, each call of the library between two marks: what bench/run counts.
+ghost use mathlib.Core.Path.{_≡_};
+ghost use mathlib.Core.Bool.{true};
 ghost use Prim.Native.Nat.{_≤_};
-ghost use lib.ListN.{length};
+ghost use lib.ListN.{length, take};
+ghost use Rattle.rules.specs.Bytes.{same};
+ghost use Rattle.rules.specs.Text.{text as textOf};
 ghost use Rattle.rules.specs.Good.{Good};
 ghost use Rattle.answer.specs.Promises.{SizeFits};
+ghost use Rattle.lists.specs.Lines.{mostEntries};
 use answer::put_loading;
 use answer::put_reply;
+use answer::put_reporting_all;
 use answer::put_saving;
 use image::load;
 use image::save;
 use input::Input;
 use input::read_all;
 use libc::STDOUT_FILENO;
+use lists::Asked;
+use lists::LONGEST_ROW;
+use lists::MOST_ENTRIES;
+use lists::asked_of;
+use lists::blank;
+use lists::put_list;
 use order::Order;
 use order::order_of;
 use questions::anchor;
 use questions::owner;
+use reports::report_pairs;
 use rules::Command;
 use rules::LONGEST_ANSWER;
 use rules::Loading;
 use rules::Reply;
+use rules::ReportingAll;
 use rules::Saving;
 use rules::Schedule;
 use schedule::admit;
@@ -27,7 +41,16 @@ use schedule::fresh;
 use schedule::report;
 use show::end;
 use show::word;
+use text::Row;
 use text::find;
+use text::opens;
+use text::read_row;
+
+// The most bytes of the line of a list: an answer, and a space and ten digits for each entry.
+const LONGEST_LIST: usize = LONGEST_ANSWER + 11 * MOST_ENTRIES;
+
+// The place after `singly`: the word's length.
+const AFTER_SINGLY: usize = 6;
 
 // Each write is a point at which the instructions are counted.
 fn mark() {
@@ -52,6 +75,16 @@ fn tell_saving(answer: Saving)
 fn tell_loading(answer: Loading) {
     let mut out = [0u8; LONGEST_ANSWER];
     let count = put_loading(&mut out, 0, answer);
+    word(&out[..count]);
+    end();
+}
+
+fn tell_list(answer: ReportingAll, list: &[u32])
+    requires { ⌜ length (now list) ≤ mostEntries ⌝ }
+{
+    let mut out = [0u8; LONGEST_LIST];
+    let at = put_reporting_all(&mut out, 0, answer);
+    let count = put_list(&mut out, at, list);
     word(&out[..count]);
     end();
 }
@@ -92,6 +125,36 @@ fn reported(s: Schedule, handle: u32, sample: u32) -> Schedule
     mark();
     let answer = done.answer;
     tell(Reply::Reporting(answer));
+    left
+}
+
+fn listed(s: Schedule, numbers: &[u32], list: &mut [u32]) -> Schedule
+    requires { ⌜ Good s × (length (now list) ≤ mostEntries) ⌝ }
+    ensures { λ r. ⌜ Good r ⌝ }
+{
+    blank(list);
+    mark();
+    let done = report_pairs(s, numbers, list);
+    let left = done.schedule;
+    mark();
+    let answer = done.answer;
+    tell_list(answer, list);
+    left
+}
+
+// The reports that numbers say, made one by one, each schedule put back: what a list is held against.
+fn one_by_one(s: Schedule, numbers: &[u32]) -> Schedule
+    requires { ⌜ Good s ⌝ }
+    ensures { λ r. ⌜ Good r ⌝ }
+{
+    mark();
+    let mut left = s;
+    for i in 0..numbers.len() / 2 {
+        let done = report(left, numbers[2 * i], numbers[2 * i + 1]);
+        left = done.schedule;
+    }
+    mark();
+    word(b"singly\n");
     left
 }
 
@@ -191,6 +254,49 @@ fn perform(s: Schedule, line: &[u8], bytes: &mut [u8]) -> Schedule
     }
 }
 
+// A line that lends a list of numbers.
+fn perform_list(s: Schedule, line: &[u8]) -> Schedule
+    requires { ⌜ Good s × (same (take (length (textOf "reports")) (now line)) (textOf "reports") ≡ true) ⌝ }
+    ensures { λ r. ⌜ Good r ⌝ }
+{
+    let mut numbers = [0u32; LONGEST_ROW];
+    let mut list = [0u32; MOST_ENTRIES];
+    let asked = asked_of(line, &mut numbers);
+    let Asked::Reports(entries, count) = asked else {
+        nothing();
+        return s;
+    };
+    let end = 1 + count;
+    listed(s, &numbers[1..end], &mut list[..entries])
+}
+
+// The word `singly` and the numbers of reports, a line of this program alone.
+fn perform_singly(s: Schedule, line: &[u8]) -> Schedule
+    requires { ⌜ Good s × (same (take (length (textOf "singly")) (now line)) (textOf "singly") ≡ true) ⌝ }
+    ensures { λ r. ⌜ Good r ⌝ }
+{
+    let mut numbers = [0u32; LONGEST_ROW];
+    let read = read_row(line, AFTER_SINGLY, &mut numbers);
+    let Row::Count(count) = read else {
+        nothing();
+        return s;
+    };
+    one_by_one(s, &numbers[..count])
+}
+
+fn perform_line(s: Schedule, line: &[u8], bytes: &mut [u8]) -> Schedule
+    requires { ⌜ Good s × (length (now line) ≤ 65536) × (32768 ≤ length (now bytes)) ⌝ }
+    ensures { λ r. ⌜ Good r ⌝ }
+{
+    if opens(line, b"reports") {
+        return perform_list(s, line);
+    }
+    if opens(line, b"singly") {
+        return perform_singly(s, line);
+    }
+    perform(s, line, bytes)
+}
+
 // A tail is not performed.
 fn perform_all(script: &[u8])
     requires { ⌜ length (now script) ≤ 65536 ⌝ }
@@ -203,7 +309,7 @@ fn perform_all(script: &[u8])
         if end == script.len() {
             return;
         }
-        s = perform(s, &script[start..end], &mut bytes);
+        s = perform_line(s, &script[start..end], &mut bytes);
         start = end + 1;
     }
 }

@@ -31,20 +31,20 @@ find-requires c κs = search needs
 returns : tie.Need-returns Inv-loop μ-loop
 returns c = search needs
 
-sub-perform : tie.Need-sub-perform Inv-loop μ-loop
-sub-perform c = search needs
+sub-perform-line : tie.Need-sub-perform-line Inv-loop μ-loop
+sub-perform-line c = search needs
 
-part-perform-start : tie.Need-part-perform-start Inv-loop μ-loop
-part-perform-start c = search needs
+part-perform-line-start : tie.Need-part-perform-line-start Inv-loop μ-loop
+part-perform-line-start c = search needs
 
-part-perform-end : tie.Need-part-perform-end Inv-loop μ-loop
-part-perform-end c = within (c .before)
+part-perform-line-end : tie.Need-part-perform-line-end Inv-loop μ-loop
+part-perform-line-end c = within (c .before)
 
-slice-aggregate-perform : tie.Need-slice-aggregate-perform Inv-loop μ-loop
-slice-aggregate-perform c = search needs
+slice-aggregate-perform-line : tie.Need-slice-aggregate-perform-line Inv-loop μ-loop
+slice-aggregate-perform-line c = search needs
 
-perform-requires : tie.Need-perform-requires Inv-loop μ-loop
-perform-requires c κs =
+perform-line-requires : tie.Need-perform-line-requires Inv-loop μ-loop
+perform-line-requires c κs =
     let l = c .before .before .before .before .before .loop in
     (l .inv .1, simp (length-take, length-drop) (omega (arith, c .before .before .before .before .before .before .before .before .pre)), omega (arith, l .inv .2))
 
@@ -70,11 +70,11 @@ perform-all-spec =
     loop-holds
     find-requires
     returns
-    sub-perform
-    part-perform-start
-    part-perform-end
-    slice-aggregate-perform
-    perform-requires
+    sub-perform-line
+    part-perform-line-start
+    part-perform-line-end
+    slice-aggregate-perform-line
+    perform-line-requires
     add-start
     loop-less
     loop-again
