@@ -1,4 +1,4 @@
-//! Ten slips, one of which can be planted at a time (`peer --fault N`).
+//! Thirteen slips, one of which can be planted at a time (`peer --fault N`).
 //! A comparison that does not find each of them is too weak.
 
 #[derive(Clone, Copy, Debug, PartialEq, Eq)]
@@ -25,10 +25,16 @@ pub enum Fault {
     RestZeroed,
     /// 10: the interval 3,200 is refused.
     LastIntervalRefused,
+    /// 11: a refused report ends the list of reports.
+    RefusedEndsList,
+    /// 12: the entries beyond the reports are cleared.
+    RestOfListCleared,
+    /// 13: a list of reports is checked for 14 before 13.
+    ShortBeforeMany,
 }
 
 /// The faults by number, 1 first.
-pub const FAULTS: [Fault; 10] = [
+pub const FAULTS: [Fault; 13] = [
     Fault::CountingOrder,
     Fault::TowardZero,
     Fault::FirstPeriodOnly,
@@ -39,9 +45,12 @@ pub const FAULTS: [Fault; 10] = [
     Fault::OverlapFirst,
     Fault::RestZeroed,
     Fault::LastIntervalRefused,
+    Fault::RefusedEndsList,
+    Fault::RestOfListCleared,
+    Fault::ShortBeforeMany,
 ];
 
-/// The fault with this number, 1 to 10.
+/// The fault with this number, 1 to 13.
 pub fn by_number(number: usize) -> Option<Fault> {
     FAULTS.get(number.checked_sub(1)?).copied()
 }

@@ -4,13 +4,15 @@
 //! tree of taken blocks) is worked out anew from them each time it is asked for.
 //!
 //! * `schedule`: the connections, who owns a block, the tree, and the calls.
+//! * `reports`: a list of reports, and the entries that answer them.
 //! * `image`: the image's bytes, written and read back with their checks.
 //! * `script`: the lines of text that drive it, and their answers.
-//! * `fault`: ten slips that can be planted, to show that a comparison finds them.
+//! * `fault`: thirteen slips that can be planted, to show that a comparison finds them.
 
 #![forbid(unsafe_code)]
 
 pub mod fault;
 pub mod image;
+pub mod reports;
 pub mod schedule;
 pub mod script;

@@ -13,7 +13,7 @@ pub const GUARD_US: i64 = 2_500;
 /// Handles are 0 to 63.
 pub const HANDLES: usize = 64;
 
-/// The number of a refusal, 1 to 12.
+/// The number of a refusal, 1 to 14.
 pub type Refusal = u32;
 
 /// For each of the 512 blocks: does it belong to someone?

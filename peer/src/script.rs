@@ -2,6 +2,7 @@
 
 use crate::fault::Fault;
 use crate::image;
+use crate::reports::{report_all, Report};
 use crate::schedule::{Moved, Refusal, Schedule};
 
 /// A script has at most this many bytes.
@@ -10,6 +11,10 @@ pub const LONGEST_SCRIPT: usize = 65_536;
 pub const LARGEST_BUFFER: i64 = 2_048;
 /// What a lent buffer holds before.
 pub const FILLING: u8 = 0xA5;
+/// `reports` takes at most this many reports, and lends at most this many entries.
+pub const LONGEST_LIST: usize = 128;
+/// What an entry of a lent list holds before.
+pub const UNTOUCHED: u32 = 0xA5A5_A5A5;
 
 /// Runs a whole script and gives all that it prints.
 pub fn run(script: &[u8], fault: Fault) -> String {
@@ -78,6 +83,7 @@ impl Session {
                 Ok((Moved::Tight, length)) => format!("tight {length}"),
                 Err(refusal) => no(refusal),
             },
+            (b"reports", [entries, numbers @ ..]) => reports(schedule, *entries, numbers)?,
             (b"owner", &[block]) => match schedule.owner(block) {
                 Some(handle) => format!("owner {handle}"),
                 None => "idle".to_string(),
@@ -127,6 +133,24 @@ fn save_into(schedule: &Schedule, size: i64) -> String {
     } else {
         format!("{answer} {}", hex(&buffer))
     }
+}
+
+/// `reports M H S H S ..`: the answer, and every entry of the list afterwards.
+fn reports(schedule: &mut Schedule, entries: i64, numbers: &[i64]) -> Option<String> {
+    if entries > LONGEST_LIST as i64 || numbers.len() % 2 == 1 || numbers.len() > 2 * LONGEST_LIST {
+        return None;
+    }
+    let list: Vec<Report> =
+        numbers.chunks(2).map(|pair| Report { handle: pair[0], sample: pair[1] }).collect();
+    let mut answers = vec![UNTOUCHED; entries as usize];
+    let mut answer = match report_all(schedule, &list, &mut answers) {
+        Ok(made) => format!("reported {made}"),
+        Err(refusal) => no(refusal),
+    };
+    for entry in answers {
+        answer += &format!(" {entry}");
+    }
+    Some(answer)
 }
 
 /// `state`: a line for each live connection, then `end`.
@@ -217,6 +241,19 @@ mod tests {
         assert_eq!(right("owner 18446744073709551616\nowner \nowner\n"), "bad\nbad\nbad\n");
         assert_eq!(right("drop 64\ndrop 4294967295\n"), "no 1\nno 1\n");
         assert_eq!(right(" owner 0\nowner  0\nowner 0 \nowner 0\r\n"), "bad\n".repeat(4));
+    }
+
+    #[test]
+    fn lists_of_reports() {
+        assert_eq!(
+            right("admit 0 48 1 4\nreports 2 0 7500 9 0 0 7500\nreports 4 0 7500 9 0 0 7500\n"),
+            "ok 8 0 1\nno 14 2779096485 2779096485\nreported 3 131074 3 65538 2779096485\n"
+        );
+        assert_eq!(right("reports 0\nreports 1\n"), "reported 0\nreported 0 2779096485\n");
+        assert_eq!(right("reports\nreports \nreports 129\nreports 1 0\n"), "bad\n".repeat(4));
+        assert_eq!(right("reports 01\nreports 1 0 00\nreports 1 0 x\n"), "bad\n".repeat(3));
+        let many = |reports: usize| format!("reports 0{}\n", " 0 0".repeat(reports));
+        assert_eq!(right(&(many(128) + &many(129))), "no 13\nbad\n");
     }
 
     #[test]

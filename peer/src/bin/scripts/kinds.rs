@@ -2,6 +2,7 @@
 
 use crate::images;
 use crate::lines;
+use crate::lists;
 use crate::random::Random;
 use crate::sheet::Sheet;
 use peer::image::image;
@@ -12,7 +13,7 @@ pub fn script(seed: u64, number: u64) -> Vec<u8> {
     let mut sheet = Sheet::new(Random::new(seed, number));
     let turn = (number.saturating_sub(1) / 5) as usize;
     match number % 5 {
-        1 => realistic(&mut sheet),
+        1 => realistic(&mut sheet, turn),
         2 => dense(&mut sheet, turn),
         3 => hostile(&mut sheet, turn),
         4 => stored(&mut sheet, turn),
@@ -22,7 +23,7 @@ pub fn script(seed: u64, number: u64) -> Vec<u8> {
 }
 
 /// (a) Loggers join, report, are asked about, and now and then one leaves.
-fn realistic(sheet: &mut Sheet) {
+fn realistic(sheet: &mut Sheet, turn: usize) {
     let loggers = sheet.random.between(3, 24);
     for _ in 0..loggers {
         sheet.do_one(lines::join);
@@ -33,23 +34,35 @@ fn realistic(sheet: &mut Sheet) {
     for _ in 0..sheet.random.between(10, 80) {
         day(sheet);
     }
-    sheet.say("state");
+    lists_in_turn(sheet, turn);
     sheet.say("save");
 }
 
 fn day(sheet: &mut Sheet) {
-    match sheet.random.between(0, 19) {
+    match sheet.random.between(0, 20) {
         0..=9 => sheet.do_one(lines::plausible_report),
         10..=14 => sheet.do_one(lines::question),
         15 => sheet.do_one(lines::join),
         16 => sheet.do_one(lines::leave),
+        17 => sheet.do_one(lists::of_the_live),
         _ => sheet.do_one(lines::show),
     };
 }
 
+/// A quarter of the kinds of lists, the next one in each turn, and what each list leaves.
+fn lists_in_turn(sheet: &mut Sheet, turn: usize) {
+    let quarter = lists::LISTS / 4;
+    for step in 0..quarter {
+        let schedule = &sheet.session.schedule;
+        let line = lists::of_kind(&mut sheet.random, schedule, quarter * turn + step);
+        sheet.say(line);
+        sheet.say("state");
+    }
+}
+
 /// The cases that the rule sheet itself names, each on a fresh schedule.
 #[rustfmt::skip]
-const NAMED: [&[&str]; 6] = [
+const NAMED: [&[&str]; 7] = [
     &["admit 0 48 1 4", "admit 1 48 1 1", "report 0 7500", "owner 9", "owner 7", "anchor 1 6",
         "admit 2 6 1 1", "drop 5"],
     &["admit 0 48 1 1", "admit 1 48 1 1", "admit 2 48 1 1", "admit 3 48 1 1", "admit 4 12 1 1",
@@ -62,6 +75,7 @@ const NAMED: [&[&str]; 6] = [
     &["admit 0 12 1 2", "admit 1 24 1 1", "admit 2 24 1 1", "drop 1", "report 0 7500",
         "report 0 7500"],
     &["admit 0 48 1 1", "admit 1 48 1 1", "save", "drop 0", "save", "drop 1", "save"],
+    &["admit 0 48 1 4", "reports 2 0 7500 9 0 0 7500", "reports 4 0 7500 9 0 0 7500", "reports 0"],
 ];
 
 /// (b) The house is filled until there is no room, thinned, and filled again.
@@ -92,6 +106,7 @@ fn dense(sheet: &mut Sheet, turn: usize) {
             }
         }
         push_and_let_go(sheet);
+        lists_in_turn(sheet, turn);
         for _ in 0..sheet.random.between(1, 8) {
             sheet.do_one(lines::leave);
         }
@@ -152,13 +167,16 @@ fn push_and_let_go(sheet: &mut Sheet) {
 
 /// Lines that are bad whatever the schedule holds.
 #[rustfmt::skip]
-const BAD: [&[u8]; 76] = [
+const BAD: [&[u8]; 90] = [
     b"", b" ", b"  ", b"\t", b"\r", b"\0", b"\xff", b"0", b"48", b"#", b"help", b"ok", b"bad",
     b"a", b"ad", b"admi", b"admit", b"admit ", b"admit 0", b"admit 0 48", b"admit 0 48 1",
     b"admit 0 48 1 ", b"admit 0 48 1 4 5", b"admit0 48 1 4", b"admit,0,48,1,4", b"admits 0 48 1 4",
     b"ADMIT 0 48 1 4", b"Admit 0 48 1 4", b"admiT 0 48 1 4", b"dro", b"drop", b"drop ", b"drop0",
     b"drop 0 0", b"Drop 0", b"drop -0", b"drop +0", b"repor", b"report", b"report 0", b"report 0 ",
-    b"report 0 1 2", b"report0 1", b"report 0 1.5", b"report 0 1e3", b"owne", b"owner", b"owner ",
+    b"report 0 1 2", b"report0 1", b"report 0 1.5", b"report 0 1e3", b"reports", b"reports ",
+    b"reports1", b"Reports 0", b"reports 129", b"reports 129 0 0", b"reports 4294967295",
+    b"reports 1 0", b"reports 2 0 0 0", b"reports 0 ", b"reports  0", b"reports 1 0  0",
+    b"reports -1", b"reports 1 0 x", b"owne", b"owner", b"owner ",
     b"owner9", b"owner 9 9", b"owner 0x9", b"owners 9", b"owner\t9", b"owner\xc2\xa09",
     b"ancho", b"anchor", b"anchor 0", b"anchor 0 1 2", b"anchor0 1", b"fres", b"fresh ",
     b"fresh 0", b"Fresh", b"freshfresh", b"sav", b"save ", b"save 2049", b"save 4294967295",
@@ -190,7 +208,7 @@ fn hostile(sheet: &mut Sheet, turn: usize) {
                 sheet.say(spoilt);
             }
             5 => {
-                let line = bad_load(sheet);
+                let line = if sheet.random.chance(50) { bad_load(sheet) } else { bad_list(sheet) };
                 sheet.say(line);
             }
             6 => drop(sheet.say("state")),
@@ -200,7 +218,7 @@ fn hostile(sheet: &mut Sheet, turn: usize) {
             sheet.do_one(lines::edge_admission);
         }
     }
-    sheet.say("state");
+    lists_in_turn(sheet, turn);
     sheet.say("save");
 
     // Whole scripts that are nearly nothing.
@@ -290,12 +308,35 @@ fn bad_load(sheet: &mut Sheet) -> Vec<u8> {
     [b"load ".as_slice(), &digits].concat()
 }
 
+/// A `reports` line with too many entries or reports, an odd number left, or a number that is none.
+fn bad_list(sheet: &mut Sheet) -> Vec<u8> {
+    let random = &mut sheet.random;
+    let schedule = &sheet.session.schedule;
+    let count = random.pick(&[1, 2, 8, 64, 128]);
+    let reports = lists::mixed(random, schedule, count);
+    let line = match random.between(0, 4) {
+        0 => lists::line(129, &reports),
+        1 => lists::line(random.pick(&[0, 64, 128]), &lists::mixed(random, schedule, 129)),
+        2 => lists::line(count, &reports) + " 0",
+        3 => lists::line(count, &reports).trim_end_matches(char::is_numeric).trim_end().to_string(),
+        _ => {
+            let line = lists::line(count, &reports);
+            let mut words: Vec<&str> = line.split(' ').collect();
+            let at = 1 + random.place(words.len() - 1);
+            words[at] = random.pick(&BAD_NUMBERS);
+            words.join(" ")
+        }
+    };
+    line.into_bytes()
+}
+
 /// (d) Images, good and damaged, and saves into buffers of all sizes.
 fn stored(sheet: &mut Sheet, turn: usize) {
     let first = images::random_schedule(&mut sheet.random, 12);
     sheet.load(&image(&first));
     look_round(sheet);
-    let damages = 9;
+    // Six scripts have every damage, so the thirty stored ones do.
+    let damages = images::DAMAGES / 6;
     for step in 0..damages {
         let which = damages * turn + step;
         let (bytes, _) = images::damaged(&mut sheet.random, which);
@@ -314,11 +355,11 @@ fn stored(sheet: &mut Sheet, turn: usize) {
     for _ in 0..sheet.random.between(3, 20) {
         sheet.do_one(lines::any);
     }
+    lists_in_turn(sheet, turn);
     if turn % 4 == 1 {
         let line = sheet.random.pick(&["save 2048", "save 2047", "save 1290", "save 1289"]);
         sheet.say(line);
     }
-    sheet.say("state");
     sheet.say("save");
 }
 
@@ -357,6 +398,8 @@ fn long(sheet: &mut Sheet, turn: usize) {
     };
     // Room is left for the last lines.
     sheet.room = if end == End::ExactInOneLine { 0 } else { size - 200 };
+    fill(sheet);
+    lists_in_turn(sheet, turn);
     while sheet.bytes.len() + 40 < sheet.room {
         mix(sheet);
     }
@@ -474,6 +517,12 @@ mod tests {
         for number in BAD_NUMBERS {
             let script = format!("owner {number}\n");
             assert_eq!(run(script.as_bytes(), Fault::None), "bad\n", "{number}");
+        }
+        let mut sheet = Sheet::new(Random::new(1, 1));
+        for _ in 0..100 {
+            sheet.do_one(lines::join);
+            let line = bad_list(&mut sheet);
+            assert_eq!(sheet.session.line(&line), "bad\n", "{}", line.escape_ascii());
         }
     }
 

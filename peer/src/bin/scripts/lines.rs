@@ -1,7 +1,9 @@
 //! Single good lines, chosen with a look at the schedule as it stands.
 
+use crate::lists;
 use crate::random::Random;
 use peer::image::image;
+use peer::reports::Report;
 use peer::schedule::{Connection, Schedule, BLOCK_US, GUARD_US};
 
 /// Numbers at which a block counter, a sample or a handle may go wrong.
@@ -166,8 +168,16 @@ pub fn edge_admission(random: &mut Random, schedule: &Schedule) -> String {
     format!("admit {handle} {interval} {} {}", within(floor), within(ceiling))
 }
 
-/// A report. Many samples aim at the very edge of growing or shrinking.
 pub fn report(random: &mut Random, schedule: &Schedule) -> String {
+    said(aimed(random, schedule))
+}
+
+fn said(report: Report) -> String {
+    format!("report {} {}", report.handle, report.sample)
+}
+
+/// A report. Many samples aim at the very edge of growing or shrinking.
+pub fn aimed(random: &mut Random, schedule: &Schedule) -> Report {
     let handle = some_handle(random, schedule);
     let connection = usize::try_from(handle)
         .ok()
@@ -175,7 +185,7 @@ pub fn report(random: &mut Random, schedule: &Schedule) -> String {
         .and_then(|place| place.clone());
     let Some(c) = connection else {
         let sample = if random.chance(50) { random.between(0, 9_000) } else { random.pick(&EDGES) };
-        return format!("report {handle} {sample}");
+        return Report { handle, sample };
     };
     let most = c.length * BLOCK_US;
     // The sample (one of eight) that moves the estimate to just this value.
@@ -198,19 +208,21 @@ pub fn report(random: &mut Random, schedule: &Schedule) -> String {
         _ => random.between(0, most),
     };
     let sample = if sample > most + 1 && sample < 4_294_967_295 { most } else { sample };
-    format!("report {handle} {}", sample.max(0))
+    Report { handle, sample: sample.max(0) }
+}
+
+pub fn plausible_report(random: &mut Random, schedule: &Schedule) -> String {
+    match live(random, schedule) {
+        Some((handle, c)) if random.chance(95) => said(plausible(random, handle, &c)),
+        _ => report(random, schedule),
+    }
 }
 
 /// A report as a logger would send it: near what its run holds.
-pub fn plausible_report(random: &mut Random, schedule: &Schedule) -> String {
-    match live(random, schedule) {
-        Some((handle, c)) if random.chance(95) => {
-            let most = c.length * BLOCK_US;
-            let low = if random.chance(30) { 0 } else { most / 2 };
-            format!("report {handle} {}", random.between(low, most))
-        }
-        _ => report(random, schedule),
-    }
+pub fn plausible(random: &mut Random, handle: usize, c: &Connection) -> Report {
+    let most = c.length * BLOCK_US;
+    let low = if random.chance(30) { 0 } else { most / 2 };
+    Report { handle: handle as i64, sample: random.between(low, most) }
 }
 
 /// A drop; often of a run that goes round the end of its cycle, if there is one.
@@ -282,13 +294,14 @@ pub fn show(random: &mut Random, schedule: &Schedule) -> String {
 
 /// Any good line but `fresh` and `load`.
 pub fn any(random: &mut Random, schedule: &Schedule) -> String {
-    match random.between(0, 19) {
+    match random.between(0, 20) {
         0 | 1 => join(random, schedule),
         2 | 3 => crowd(random, schedule, 3, 9, 15),
         4 => edge_admission(random, schedule),
         5..=10 => report(random, schedule),
         11 => leave(random, schedule),
         12..=16 => question(random, schedule),
+        17 => lists::any(random, schedule),
         _ => show(random, schedule),
     }
 }

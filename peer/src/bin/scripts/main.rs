@@ -7,6 +7,7 @@
 mod images;
 mod kinds;
 mod lines;
+mod lists;
 mod random;
 mod sheet;
 
