@@ -39,10 +39,8 @@ static bool is_set(const uint8_t *tree, uint32_t n) { return tree[n >> 3] >> (n 
 
 static void write_node(uint8_t *tree, uint32_t n, bool taken) {
     uint8_t bit = 1u << (n & 7);
-    if (taken)
-        tree[n >> 3] |= bit;
-    else
-        tree[n >> 3] &= ~bit;
+    uint8_t wanted = (unsigned)taken << (n & 7);
+    tree[n >> 3] = (tree[n >> 3] & ~bit) | wanted;
 }
 
 static void write_below(uint8_t *tree, uint32_t n, uint32_t left, bool taken) {

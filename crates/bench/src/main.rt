@@ -18,6 +18,7 @@ use input::Input;
 use input::read_all;
 use libc::STDOUT_FILENO;
 use lists::Asked;
+use lists::LONGEST_LINE;
 use lists::LONGEST_ROW;
 use lists::MOST_ENTRIES;
 use lists::asked_of;
@@ -45,9 +46,6 @@ use text::Row;
 use text::find;
 use text::opens;
 use text::read_row;
-
-// The most bytes of the line of a list: an answer, and a space and ten digits for each entry.
-const LONGEST_LIST: usize = LONGEST_ANSWER + 11 * MOST_ENTRIES;
 
 // The place after `singly`: the word's length.
 const AFTER_SINGLY: usize = 6;
@@ -82,7 +80,7 @@ fn tell_loading(answer: Loading) {
 fn tell_list(answer: ReportingAll, list: &[u32])
     requires { ⌜ length (now list) ≤ mostEntries ⌝ }
 {
-    let mut out = [0u8; LONGEST_LIST];
+    let mut out = [0u8; LONGEST_LINE];
     let at = put_reporting_all(&mut out, 0, answer);
     let count = put_list(&mut out, at, list);
     word(&out[..count]);

@@ -24,7 +24,8 @@ settle-requires : tie.Need-settle-requires
 settle-requires c κs =
     let t = c .before in
     let a = t .before .before .before in
-    (numbers t, omega arith, treed (a .args .t1) (a .pre))
+    let n = numbers t in
+    (n, omega arith, treed (a .args .t1) (a .pre))
 
 nobody-requires : tie.Need-nobody-requires
 nobody-requires c κs = search needs
