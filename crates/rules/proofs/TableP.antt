@@ -5,11 +5,12 @@ use mathlib.Core.Bool.{true}
 use mathlib.Core.List.{List, [], _∷_, _++_, map}
 use Rattle.rules.specs.declared.Connection.{Connection}
 use Rattle.rules.specs.declared.Schedule.{Schedule}
+use Rattle.rules.specs.declared.Command.the-variants.{Admit}
 use Rattle.rules.specs.Sound.{sound}
 use Rattle.rules.specs.Good.{fresh, withConnections, withConnection}
 use Rattle.rules.specs.Answers.{Answer, refused, ok, shrunk, owner}
 use Rattle.rules.specs.Handles.{connection}
-use Rattle.rules.specs.Admit.{admit}
+use Rattle.rules.specs.Obey.{obey}
 use Rattle.rules.specs.Meter.{moved, need}
 use Rattle.rules.specs.Report.{report}
 use Rattle.rules.specs.Owner.{ownerOf}
@@ -28,14 +29,14 @@ infix 70 _∼_
 abbrev pub _∼_ : Entry → Entry → Row
 given ∼ sheet = record { given = given; sheet = sheet }
 
--- The answer of an admission whose floor and ceiling are the share, and the schedule after it.
+-- The answer of an admission of one interval whose floor and ceiling are the share, and the schedule after it.
 admits : Schedule → ℕ → ℕ → ℕ → Entry
-unfolding admit
-admits s handle interval share = says (admit s handle interval share share .answer)
+unfolding obey
+admits s handle interval share = says (obey s (Admit handle interval share share) .answer)
 
 andThen : Schedule → ℕ → ℕ → ℕ → Schedule
-unfolding admit
-andThen s handle interval share = admit s handle interval share share .schedule
+unfolding obey
+andThen s handle interval share = obey s (Admit handle interval share share) .schedule
 
 -- One live connection, of handle 0.
 alone : ℕ → ℕ → ℕ → ℕ → ℕ → ℕ → Schedule

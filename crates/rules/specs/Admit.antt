@@ -1,15 +1,15 @@
--- Admit: handle, interval in slots, floor, ceiling; each 0 to 2^32 - 1.
-use Prim.Native.Nat.{ℕ, _-_, _*_, _^_}
-use mathlib.Core.Bool.{Bool, true, false, not, _||_}
+-- Admit: handle, smallest and largest interval in slots, floor, ceiling; each 0 to 2^32 - 1.
+use Prim.Native.Nat.{ℕ, suc, _-_, _*_, _^_}
+use mathlib.Core.Bool.{Bool, true, not, _||_, _&&_}
 use mathlib.Core.List.{List, [], _∷_}
-use mathlib.Core.Option.{Option, none, some, Option·getD}
+use mathlib.Core.Option.{Option, Option·getD}
 use lib.Dec.{leb, ltb, eqb}
 use Rattle.rules.specs.declared.Connection.{Connection}
 use Rattle.rules.specs.declared.Schedule.{Schedule}
-use Rattle.rules.specs.declared.Refusal.the-variants.{HandleAbove63, HandleLive, IntervalOutside, ShareWrong, NoOpenAnchor}
-use Rattle.rules.specs.Below.{largest, least}
+use Rattle.rules.specs.declared.Refusal.the-variants.{HandleAbove63, HandleLive, IntervalOutside, NoInterval, ShareWrong, NoOpenAnchor}
+use Rattle.rules.specs.Below.{largest, greatest, least, isNone}
 use Rattle.rules.specs.Time.{blockSlots, blockMicros, guardMicros}
-use Rattle.rules.specs.Core.{isInterval}
+use Rattle.rules.specs.Core.{isRange}
 use Rattle.rules.specs.Ownership.{largestK, taken}
 use Rattle.rules.specs.Classes.{runFree}
 use Rattle.rules.specs.Mirror.{mirrored}
@@ -18,14 +18,31 @@ use Rattle.rules.specs.Refusals.{Check, check, decided}
 use Rattle.rules.specs.Answers.{Outcome, refusing, ok}
 use Rattle.rules.specs.Handles.{aboveHandles, isLive}
 
--- 4: "interval below 6 or above 3,200"
-abbrev pub intervalOutside : ℕ → Bool
-intervalOutside interval = not (isInterval interval)
+-- 4: "either bound outside 6 to 3,200 or smallest above largest"
+abbrev pub intervalOutside : ℕ → ℕ → Bool
+intervalOutside smallest largest = not (isRange smallest largest)
 
--- "k is the largest with 6 × 2^k not above the interval."
+-- Of one interval: "k is the largest with 6 × 2^k not above the interval."
 unfoldable pub kOf : ℕ → ℕ
 unfolding largest
 kOf interval = largest largestK (λ k. leb (blockSlots * 2 ^ k) interval)
+
+-- 6 × 2^k is "not above the largest and not below the smallest".
+abbrev pub inRange : ℕ → ℕ → ℕ → Bool
+inRange smallest largest k = leb (blockSlots * 2 ^ k) largest && leb smallest (blockSlots * 2 ^ k)
+
+-- Of a range: "we take the largest 6 × 2^k" that is so. "That rule may find none".
+unfoldable pub kIn : ℕ → ℕ → Option ℕ
+unfolding greatest
+kIn smallest largest = greatest (suc largestK) (inRange smallest largest)
+
+-- 15: "no such interval in the range"
+abbrev pub noInterval : ℕ → ℕ → Bool
+noInterval smallest largest = isNone (kIn smallest largest)
+
+-- The k that is taken; where none is, 15 refuses before it counts.
+abbrev pub kFor : ℕ → ℕ → ℕ
+kFor smallest largest = Option·getD (kIn smallest largest) 0
 
 -- 5: "floor 0, ceiling below floor, or ceiling above F"
 abbrev pub shareWrong : ℕ → ℕ → ℕ → Bool
@@ -43,27 +60,28 @@ unfolding least isOpen mirrored
 firstOpen blocks k floor = least (2 ^ k) (λ p. isOpen blocks k floor (mirrored k p))
 
 -- 6: "no open anchor"
-abbrev pub noOpenAnchor : Option ℕ → Bool
-noOpenAnchor none = true
-noOpenAnchor (some p) = false
+abbrev pub noOpenAnchor : (ℕ → Bool) → ℕ → ℕ → Bool
+noOpenAnchor blocks k floor = isNone (firstOpen blocks k floor)
 
 -- "L is the floor; the estimate is L × 7,500 - 2,500."
 abbrev pub newConnection : ℕ → ℕ → ℕ → ℕ → Connection
 newConnection k A floor ceiling = record { live = true; k = k; anchor = A; length = floor; floor = floor; ceiling = ceiling; estimate = floor * blockMicros - guardMicros }
 
--- "Checks 1, 2, 4, 5, 6": 1 is of the handle alone, and the others ask of a schedule only whether the handle is live and which blocks are taken.
-abbrev pub placeChecks : Bool → (ℕ → Bool) → ℕ → ℕ → ℕ → List Check
-placeChecks live blocks interval floor ceiling =
+-- "Checks 1, 2, 4, 5, 6", and 15 "after 4 and before 5": 1 is of the handle alone, and the others ask of a schedule only whether the handle is live
+-- and which blocks are taken.
+abbrev pub placeChecks : Bool → (ℕ → Bool) → ℕ → ℕ → ℕ → ℕ → List Check
+placeChecks live blocks smallest largest floor ceiling =
     check HandleLive live
-    ∷ check IntervalOutside (intervalOutside interval)
-    ∷ check ShareWrong (shareWrong floor ceiling (2 ^ kOf interval))
-    ∷ check NoOpenAnchor (noOpenAnchor (firstOpen blocks (kOf interval) floor))
+    ∷ check IntervalOutside (intervalOutside smallest largest)
+    ∷ check NoInterval (noInterval smallest largest)
+    ∷ check ShareWrong (shareWrong floor ceiling (2 ^ kFor smallest largest))
+    ∷ check NoOpenAnchor (noOpenAnchor blocks (kFor smallest largest) floor)
     ∷ []
 
-unfoldable pub admitChecks : Schedule → ℕ → ℕ → ℕ → ℕ → List Check
-unfolding isInterval kOf firstOpen taken
-admitChecks s handle interval floor ceiling =
-    check HandleAbove63 (aboveHandles handle) ∷ placeChecks (isLive s handle) (taken (s .connections)) interval floor ceiling
+unfoldable pub admitChecks : Schedule → ℕ → ℕ → ℕ → ℕ → ℕ → List Check
+unfolding isRange kIn firstOpen taken
+admitChecks s handle smallest largest floor ceiling =
+    check HandleAbove63 (aboveHandles handle) ∷ placeChecks (isLive s handle) (taken (s .connections)) smallest largest floor ceiling
 
 -- The anchor that is taken.
 unfoldable pub anchorFor : Schedule → ℕ → ℕ → ℕ
@@ -72,13 +90,13 @@ anchorFor s k floor = mirrored k (Option·getD (firstOpen (taken (s .connections
 
 -- "Answer: F, A, L."
 unfoldable pub admitDone : Schedule → ℕ → ℕ → ℕ → ℕ → Outcome
-unfolding kOf anchorFor withConnections
+unfolding anchorFor withConnections
 admitDone s handle k floor ceiling =
     let A = anchorFor s k floor in
     let after = withConnection s handle (newConnection k A floor ceiling) in
     record { answer = ok (2 ^ k) A floor; schedule = after }
 
-unfoldable pub admit : Schedule → ℕ → ℕ → ℕ → ℕ → Outcome
-unfolding admitChecks admitDone decided
-admit s handle interval floor ceiling =
-    decided (admitChecks s handle interval floor ceiling) (refusing s) (admitDone s handle (kOf interval) floor ceiling)
+unfoldable pub admit : Schedule → ℕ → ℕ → ℕ → ℕ → ℕ → Outcome
+unfolding kIn admitChecks admitDone decided
+admit s handle smallest largest floor ceiling =
+    decided (admitChecks s handle smallest largest floor ceiling) (refusing s) (admitDone s handle (kFor smallest largest) floor ceiling)

@@ -2,7 +2,7 @@
 use Prim.Native.Nat.{ℕ, zero, suc, _+_}
 use mathlib.Core.Bool.{Bool, true, false, _||_, _&&_, cond}
 use mathlib.Core.List.{List, [], _∷_}
-use mathlib.Core.Option.{Option, none, some}
+use mathlib.Core.Option.{Option, none, some, Option·getD}
 
 -- The test holds of every number below n.
 unfoldable pub every : ℕ → (ℕ → Bool) → Bool
@@ -30,12 +30,22 @@ unfoldable pub least : ℕ → (ℕ → Bool) → Option ℕ
 unfolding leastFrom
 least n test = leastFrom 0 n test
 
+-- The largest number below n of which the test holds.
+unfoldable pub greatest : ℕ → (ℕ → Bool) → Option ℕ
+greatest zero test = none
+greatest (suc n) test =
+    let lower = greatest n test in
+    cond (test n) (some n) lower
+
 -- The largest number from 1 to n of which the test holds, or 0.
 unfoldable pub largest : ℕ → (ℕ → Bool) → ℕ
-largest zero test = 0
-largest (suc n) test =
-    let lower = largest n test in
-    cond (test (suc n)) (suc n) lower
+unfolding greatest
+largest n test = Option·getD (greatest (suc n) test) 0
+
+-- Nothing was found.
+abbrev pub isNone : Option ℕ → Bool
+isNone none = true
+isNone (some n) = false
 
 -- The list f 0, f 1, .. of n entries.
 unfoldable pub tabulate {ℓ} : {A : Type ℓ} → ℕ → (ℕ → A) → List A

@@ -5,7 +5,7 @@ use mathlib.Core.List.{List, [], _∷_, _++_, map}
 use lib.Dec.{eqb}
 use lib.ListN.{length, getD}
 use Rattle.rules.specs.declared.Command.{Command}
-use Rattle.rules.specs.declared.Command.the-variants.{Admit, Drop, Report, Owner, Anchor}
+use Rattle.rules.specs.declared.Command.the-variants.{Admit, AdmitRange, Drop, Report, Owner, Anchor}
 use Rattle.rules.specs.declared.Line.{Line}
 use Rattle.rules.specs.declared.Line.the-variants.{Says, Bad}
 use Rattle.rules.specs.Text.{byte, text}
@@ -18,14 +18,16 @@ use Rattle.rules.specs.Words.{spaced}
 -- "A line opens with one of the words admit, drop, report, owner, anchor in small letters,"
 abbrev pub wordOf : Command → List ℕ
 wordOf (Admit handle interval floor ceiling) = text "admit"
+wordOf (AdmitRange handle smallest largest floor ceiling) = text "admit"
 wordOf (Drop handle) = text "drop"
 wordOf (Report handle sample) = text "report"
 wordOf (Owner block) = text "owner"
 wordOf (Anchor handle block) = text "anchor"
 
--- "then its numbers in the order above,"
+-- "then its numbers in the order above," and "a five-number form has the smallest before the largest",
 abbrev pub numbersOf : Command → List ℕ
 numbersOf (Admit handle interval floor ceiling) = handle ∷ interval ∷ floor ∷ ceiling ∷ []
+numbersOf (AdmitRange handle smallest largest floor ceiling) = handle ∷ smallest ∷ largest ∷ floor ∷ ceiling ∷ []
 numbersOf (Drop handle) = handle ∷ []
 numbersOf (Report handle sample) = handle ∷ sample ∷ []
 numbersOf (Owner block) = block ∷ []
@@ -53,10 +55,11 @@ unfolding same
 named word ns =
     let n : ℕ → ℕ = λ i. getD ns i 0 in
     cond (isForm word ns (text "admit") 4) (Says (Admit (n 0) (n 1) (n 2) (n 3)))
+    (cond (isForm word ns (text "admit") 5) (Says (AdmitRange (n 0) (n 1) (n 2) (n 3) (n 4)))
     (cond (isForm word ns (text "drop") 1) (Says (Drop (n 0)))
     (cond (isForm word ns (text "report") 2) (Says (Report (n 0) (n 1)))
     (cond (isForm word ns (text "owner") 1) (Says (Owner (n 0)))
-    (cond (isForm word ns (text "anchor") 2) (Says (Anchor (n 0) (n 1))) Bad))))
+    (cond (isForm word ns (text "anchor") 2) (Says (Anchor (n 0) (n 1))) Bad)))))
 
 -- What is between the spaces, taken as a word and then numbers.
 unfoldable pub fieldsNamed : List (List ℕ) → List ℕ → Line

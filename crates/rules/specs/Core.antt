@@ -10,9 +10,19 @@ use Rattle.rules.specs.Time.{slotMicros, blockSlots}
 abbrev pub intervalMicros : ℕ → ℕ
 intervalMicros units = units * slotMicros
 
--- It has 6 to 3,200 units: 7.5 ms to 4 s.
+-- The least is 6 units, 7.5 ms.
+abbrev pub leastInterval : ℕ
+leastInterval = 6
+
+-- An interval has 6 to 3,200 units: 7.5 ms to 4 s.
 unfoldable pub isInterval : ℕ → Bool
-isInterval units = leb 6 units && leb units 3200
+isInterval units = leb leastInterval units && leb units 3200
+
+-- "A host names a smallest and a largest interval, as the Core Specification's connection parameters do": each is one, and the smallest is not above
+-- the largest.
+unfoldable pub isRange : ℕ → ℕ → Bool
+unfolding isInterval
+isRange smallest largest = isInterval smallest && isInterval largest && leb smallest largest
 
 -- "The base interval is one block."
 abbrev pub baseInterval : ℕ

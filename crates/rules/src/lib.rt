@@ -2,6 +2,9 @@
 
 // ---- the sheet's numbers, each with the name of its definition
 
+/// The least connection interval, in slots.
+pub const LEAST_INTERVAL: u32 = 6;
+
 /// A block in slots.
 pub const BLOCK_SLOTS: u32 = 6;
 
@@ -118,12 +121,25 @@ pub enum Refusal {
     TreeDiffers,
     ReportsMany,
     ListShort,
+    NoInterval,
 }
 
-/// What an interval gives: the k of its factor 2^k, or nothing.
+/// What a largest interval gives: the largest k with 6 × 2^k not above it, or nothing.
 pub enum Interval {
     Gives(u8),
     Outside,
+}
+
+/// Whether a smallest interval is from the least that there is to the largest.
+pub enum Smallest {
+    Within,
+    Outside,
+}
+
+/// Whether the interval that k gives is not below the smallest.
+pub enum Range {
+    Holds,
+    Misses,
 }
 
 /// Whether a floor and a ceiling are a share of a factor.
@@ -215,6 +231,13 @@ pub enum Command {
     Admit {
         handle: u32,
         interval: u32,
+        floor: u32,
+        ceiling: u32,
+    },
+    AdmitRange {
+        handle: u32,
+        smallest: u32,
+        largest: u32,
         floor: u32,
         ceiling: u32,
     },
