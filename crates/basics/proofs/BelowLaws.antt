@@ -3,12 +3,12 @@ use mathlib.Core.Path.{_≡_, refl, sym, ap, ap₂, _∙_}
 use mathlib.Core.Bool.{Bool, true, false, _||_, _&&_, cond, or-true, false≢true}
 use mathlib.Core.Logic.{_≢_, by-cases}
 use mathlib.Core.List.{List, [], _∷_, _++_}
-use mathlib.Core.Option.{Option, none, some}
+use mathlib.Core.Option.{Option, none, some, Option·getD}
 use Prim.Native.Nat.{ℕ, zero, suc, _+_, _-_, _<_, _≤_}
 use native.Mathlib.Decide.{ℕ-discrete, decLe}
 use native.Mathlib.Omega.{arith}
 use lib.ListN.{length, getD}
-use Rattle.rules.specs.Below.{every, any, leastFrom, least, largest, tabulate}
+use Rattle.rules.specs.Below.{every, any, leastFrom, least, greatest, largest, isNone, tabulate}
 use Rattle.basics.proofs.BoolLaws.{both, is-false}
 
 -- ---- every
@@ -81,6 +81,25 @@ unfolding tabulate
 tabulate-last zero f = refl
 tabulate-last {A = A} (suc n) f = ap {B = List A} (λ l. f 0 ∷ l) (tabulate-last n (λ i. f (suc i)))
 
+-- ---- found, or not
+pub is-none : (o : Option ℕ) → isNone o ≡ true → o ≡ none
+is-none none e = refl
+is-none (some n) e = absurd (false≢true e)
+
+pub is-some : (o : Option ℕ) → isNone o ≡ false → (n : ℕ) × (o ≡ some n)
+is-some none e = absurd (false≢true (sym e))
+is-some (some n) e = (n, refl)
+
+-- What is found is q, where something is found, and nothing below or above q;
+found : (o : Option ℕ) (q : ℕ) → (o ≡ none → ⊥) → ((p : ℕ) → o ≡ some p → (p < q → ⊥) × (q < p → ⊥)) → o ≡ some q
+found none q n u = absurd (n refl)
+found (some p) q n u = let w = u p refl in ap {B = Option ℕ} some (by-cases (ℕ-discrete p q) (λ s. s) (λ s. by-cases (decLe p q) (λ l. absurd (w .0 (omega arith))) (λ l. absurd (w .1 (omega arith)))))
+
+-- nothing is, where no number is.
+not-found : (o : Option ℕ) → ((p : ℕ) → o ≡ some p → ⊥) → o ≡ none
+not-found none n = refl
+not-found (some p) n = absurd (n p refl)
+
 -- ---- least
 none≢some : {p : ℕ} → _≡_ {A = Option ℕ} none (some p) → ⊥
 none≢some e = let z : _≡_ {A = ℕ} 0 1 = cc in omega arith
@@ -130,26 +149,18 @@ unfolding least
 least-none n f e i h = leastFrom-none n 0 f e i (omega arith) (omega arith)
 
 pub least-is : (n : ℕ) (f : ℕ → Bool) (q : ℕ) → q < n → f q ≡ true → ((i : ℕ) → i < q → f i ≡ false) → least n f ≡ some q
-least-is n f q h t first = go (least n f) refl
-  where
-    go : (o : Option ℕ) → least n f ≡ o → least n f ≡ some q
-    go none e = absurd (false≢true (sym (least-none n f e q h) ∙ t))
-    go (some p) e =
-        let r = least-some n f p e in
-        by-cases (ℕ-discrete p q)
-        (λ s. e ∙ ap {B = Option ℕ} some s)
-        (λ s. by-cases (decLe p q)
-        (λ l. absurd (false≢true (sym (first p (omega arith)) ∙ r .1)))
-        (λ l. absurd (false≢true (sym (r .2 q (omega arith)) ∙ t))))
+least-is n f q h t first =
+    found (least n f) q
+    (λ e. false≢true (sym (least-none n f e q h) ∙ t))
+    (λ p e.
+    let r = least-some n f p e in
+    (λ l. false≢true (sym (first p l) ∙ r .1), λ l. false≢true (sym (r .2 q l) ∙ t)))
 
 pub least-is-none : (n : ℕ) (f : ℕ → Bool) → ((i : ℕ) → i < n → f i ≡ false) → least n f ≡ none
-least-is-none n f h = go (least n f) refl
-  where
-    go : (o : Option ℕ) → least n f ≡ o → least n f ≡ none
-    go none e = e
-    go (some p) e =
-        let r = least-some n f p e in
-        absurd (false≢true (sym (h p (r .0)) ∙ r .1))
+least-is-none n f h =
+    not-found (least n f) (λ p e.
+    let r = least-some n f p e in
+    false≢true (sym (h p (r .0)) ∙ r .1))
 
 pub least-ext : (n : ℕ) (f g : ℕ → Bool) → ((i : ℕ) → i < n → f i ≡ g i) → least n f ≡ least n g
 least-ext n f g h = go (least n g) refl
@@ -160,6 +171,52 @@ least-ext n f g h = go (least n g) refl
         let r = least-some n g q e in
         least-is n f q (r .0) (h q (r .0) ∙ r .1) (λ i l. h i (omega arith) ∙ r .2 i l) ∙ sym e
 
+-- ---- greatest
+pub record Greatest (n : ℕ) (f : ℕ → Bool) (k : ℕ) : Type 0 where
+  pub below : k < n
+  pub holds : f k ≡ true
+  pub last : (i : ℕ) → k < i → i < n → f i ≡ false
+
+pub greatest-some : (n : ℕ) (f : ℕ → Bool) (k : ℕ) → greatest n f ≡ some k → Greatest n f k
+unfolding greatest
+greatest-some zero f k e = absurd (none≢some e)
+greatest-some (suc n) f k e = go (f n) refl e (greatest-some n f k)
+  where
+    go : (v : Bool) → f n ≡ v → cond v (some n) (greatest n f) ≡ some k → (greatest n f ≡ some k → Greatest n f k) → Greatest (suc n) f k
+    go true t e lower =
+        let s : n ≡ k = cc in
+        record { below = omega arith; holds = ap f (sym s) ∙ t; last = λ i l h. absurd (omega arith) }
+    go false t e lower =
+        let r = lower e in
+        record {
+          below = omega (arith, r .below);
+          holds = r .holds;
+          last = λ i l h. by-cases (ℕ-discrete i n) (λ s. ap f s ∙ t) (λ s. r .last i l (omega arith));
+        }
+
+pub greatest-none : (n : ℕ) (f : ℕ → Bool) → greatest n f ≡ none → (i : ℕ) → i < n → f i ≡ false
+unfolding greatest
+greatest-none zero f e i h = absurd (omega arith)
+greatest-none (suc n) f e i h = go (f n) refl e (greatest-none n f)
+  where
+    go : (v : Bool) → f n ≡ v → cond v (some n) (greatest n f) ≡ none → (greatest n f ≡ none → (i : ℕ) → i < n → f i ≡ false) → f i ≡ false
+    go true t e lower = absurd (none≢some (sym e))
+    go false t e lower = by-cases (ℕ-discrete i n) (λ s. ap f s ∙ t) (λ s. lower e i (omega arith))
+
+pub greatest-is : (n : ℕ) (f : ℕ → Bool) (k : ℕ) → Greatest n f k → greatest n f ≡ some k
+greatest-is n f k g =
+    found (greatest n f) k
+    (λ e. false≢true (sym (greatest-none n f e k (g .below)) ∙ g .holds))
+    (λ j e.
+    let r = greatest-some n f j e in
+    (λ l. false≢true (sym (r .last k l (g .below)) ∙ g .holds), λ l. false≢true (sym (g .last j l (r .below)) ∙ r .holds)))
+
+pub greatest-is-none : (n : ℕ) (f : ℕ → Bool) → ((i : ℕ) → i < n → f i ≡ false) → greatest n f ≡ none
+greatest-is-none n f h =
+    not-found (greatest n f) (λ k e.
+    let r = greatest-some n f k e in
+    false≢true (sym (h k (r .below)) ∙ r .holds))
+
 -- ---- largest
 pub record Largest (n : ℕ) (f : ℕ → Bool) (k : ℕ) : Type 0 where
   pub within : k ≤ n
@@ -168,23 +225,16 @@ pub record Largest (n : ℕ) (f : ℕ → Bool) (k : ℕ) : Type 0 where
 
 pub largest-is-largest : (n : ℕ) (f : ℕ → Bool) → Largest n f (largest n f)
 unfolding largest
-largest-is-largest zero f = record { within = omega arith; holds = λ h. h; last = λ i l h. absurd (omega arith) }
-largest-is-largest (suc n) f = go (f (suc n)) refl (largest-is-largest n f)
+largest-is-largest n f = go (greatest (suc n) f) refl
   where
-    go : (v : Bool) → f (suc n) ≡ v → Largest n f (largest n f) → Largest (suc n) f (cond v (suc n) (largest n f))
-    go true t r = record { within = omega arith; holds = λ h. t; last = λ i l h. absurd (omega arith) }
-    go false t r =
-        record {
-          within = omega arith;
-          holds = r .holds;
-          last = λ i l h. by-cases (ℕ-discrete i (suc n)) (λ s. ap f s ∙ t) (λ s. r .last i l (omega arith));
-        }
+    go : (o : Option ℕ) → greatest (suc n) f ≡ o → Largest n f (Option·getD o 0)
+    go none e = record { within = omega arith; holds = λ h. h; last = λ i l h. greatest-none (suc n) f e i (omega arith) }
+    go (some k) e =
+        let r = greatest-some (suc n) f k e in
+        record { within = omega (arith, r .below); holds = λ h. r .holds; last = λ i l h. r .last i l (omega arith) }
 
-pub largest-unique : (n : ℕ) (f : ℕ → Bool) (k : ℕ) → k ≤ n → f 0 ≡ true → f k ≡ true → ((i : ℕ) → k < i → i ≤ n → f i ≡ false) → largest n f ≡ k
-largest-unique n f k h z t last =
-    let r = largest-is-largest n f in
-    by-cases (ℕ-discrete (largest n f) k)
-    (λ s. s)
-    (λ s. by-cases (decLe (largest n f) k)
-    (λ l. absurd (false≢true (sym (r .last k (omega arith) h) ∙ t)))
-    (λ l. absurd (false≢true (sym (last (largest n f) (omega arith) (r .within)) ∙ r .holds z))))
+pub largest-unique : (n : ℕ) (f : ℕ → Bool) (k : ℕ) → k ≤ n → f k ≡ true → ((i : ℕ) → k < i → i ≤ n → f i ≡ false) → largest n f ≡ k
+unfolding largest
+largest-unique n f k h t last =
+    ap (λ (o : Option ℕ). Option·getD o 0)
+    (greatest-is (suc n) f k (record { below = omega arith; holds = t; last = λ i l m. last i l (omega arith) }))

@@ -24,6 +24,10 @@ pub either : (a b : Bool) → a || b ≡ true → (a ≡ false) → b ≡ true
 either true b e f = absurd (false≢true (sym f))
 either false b e f = e
 
+pub neither : (a b : Bool) → a || b ≡ false → (a ≡ false) × (b ≡ false)
+neither true b e = absurd (false≢true (sym e))
+neither false b e = (refl, e)
+
 pub not-true-is-false : (a : Bool) → not a ≡ true → a ≡ false
 not-true-is-false true e = absurd (false≢true e)
 not-true-is-false false e = refl

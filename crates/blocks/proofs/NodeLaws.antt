@@ -21,7 +21,6 @@ module _ (k p : ℕ) (hk : k ≤ depth) (hp : p < 2 ^ k) where
   unfolding depthOf
   depth-node =
       largest-unique depth (λ j. leb (2 ^ j) (2 ^ k + p)) k hk
-      (le-leb 1 (2 ^ k + p) (omega (arith, pow-pos k)))
       (le-leb (2 ^ k) (2 ^ k + p) (omega arith))
       (λ i l h.
       let g : 2 ^ suc k ≤ 2 ^ i = pow-mono l in

@@ -6,7 +6,7 @@ use mathlib.Core.List.{List, [], _∷_}
 use lib.Dec.{eqb, lit<}
 use lib.ListN.{getD}
 use Rattle.rules.specs.declared.Refusal.{Refusal}
-use Rattle.rules.specs.declared.Refusal.the-variants.{HandleAbove63, HandleLive, HandleNotLive, IntervalOutside, ShareWrong, NoOpenAnchor, SampleAboveRun, BufferShort, RecordsWrong, NumbersUnsound, BlockOwnedTwice, TreeDiffers, ReportsMany, ListShort}
+use Rattle.rules.specs.declared.Refusal.the-variants.{HandleAbove63, HandleLive, HandleNotLive, IntervalOutside, ShareWrong, NoOpenAnchor, SampleAboveRun, BufferShort, RecordsWrong, NumbersUnsound, BlockOwnedTwice, TreeDiffers, ReportsMany, ListShort, NoInterval}
 use Rattle.rules.specs.declared.Admission.{Admission}
 use Rattle.rules.specs.declared.Admission.the-variants.{Placed, Refused as AdmissionRefused}
 use Rattle.rules.specs.declared.Dropping.{Dropping}
@@ -44,7 +44,7 @@ refusalOf n =
     (or IntervalOutside (or ShareWrong (or NoOpenAnchor
     (or SampleAboveRun (or BufferShort (or RecordsWrong
     (or NumbersUnsound (or BlockOwnedTwice (or TreeDiffers
-    (or ReportsMany ListShort))))))))))))
+    (or ReportsMany (or ListShort NoInterval)))))))))))))
 
 refusal-back : (r : Refusal) → refusalOf (number r) ≡ r
 unfolding refusalOf
@@ -62,6 +62,7 @@ refusal-back BlockOwnedTwice = refl
 refusal-back TreeDiffers = refl
 refusal-back ReportsMany = refl
 refusal-back ListShort = refl
+refusal-back NoInterval = refl
 
 pub number-injective : (a b : Refusal) → number a ≡ number b → a ≡ b
 number-injective a b e = undone number refusalOf refusal-back e
@@ -82,6 +83,7 @@ number-small BlockOwnedTwice = lit< tt
 number-small TreeDiffers = lit< tt
 number-small ReportsMany = lit< tt
 number-small ListShort = lit< tt
+number-small NoInterval = lit< tt
 
 -- ---- the answers: a number for each of the sheet's words, and the values beside it
 word : Answer → ℕ

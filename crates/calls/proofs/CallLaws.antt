@@ -12,7 +12,7 @@ use Rattle.rules.specs.Handles.{connection}
 use Rattle.rules.specs.Good.{Good, FreeSlotsZero}
 use Rattle.rules.specs.Answers.{Answer, Outcome, refused, refusing}
 use Rattle.rules.specs.Refusals.{number, Check, decided}
-use Rattle.rules.specs.Admit.{kOf, admitChecks, admitDone, admit}
+use Rattle.rules.specs.Admit.{kFor, admitChecks, admitDone, admit}
 use Rattle.rules.specs.Drop.{dropChecks, dropDone, dropHandle}
 use Rattle.rules.specs.Report.{roomToGrow, aim, reportAnswer, reportChecks, reportDone, report}
 use Rattle.calls.proofs.RefusalLaws.{decided-cases, decided-map, refused-same}
@@ -23,7 +23,7 @@ use Rattle.calls.proofs.ReportLaws.{report-cases, report-good, report-z
 
 -- What each of these calls leaves of a schedule.
 pub data Leaves (s : Schedule) : Outcome → Type 0 where
-  admits : (h i f c : ℕ) → Leaves s (admit s h i f c)
+  admits : (h lo hi f c : ℕ) → Leaves s (admit s h lo hi f c)
   drops : (h : ℕ) → Leaves s (dropHandle s h)
   reports : (h sample : ℕ) → Leaves s (report s h sample)
 
@@ -59,8 +59,8 @@ tabled-outcome cs s done t = subst⁻¹ Tabled (decided-map (λ (o : Outcome). o
 -- What is done once the checks pass is no refusal.
 pub refusal-in-table : (s : Schedule) {o : Outcome} → Leaves s o → Tabled (o .answer)
 unfolding admit admitDone dropHandle dropDone report reportDone
-refusal-in-table s (admits h i f c) =
-    tabled-outcome (admitChecks s h i f c) s (admitDone s h (kOf i) f c) (λ n e. let z : _≡_ {A = ℕ} 0 1 = cc in absurd (omega arith))
+refusal-in-table s (admits h lo hi f c) =
+    tabled-outcome (admitChecks s h lo hi f c) s (admitDone s h (kFor lo hi) f c) (λ n e. let z : _≡_ {A = ℕ} 0 1 = cc in absurd (omega arith))
 refusal-in-table s (drops h) =
     tabled-outcome (dropChecks s h) s (dropDone s h) (λ n e. let z : _≡_ {A = ℕ} 0 1 = cc in absurd (omega arith))
 refusal-in-table s (reports h sample) =
@@ -69,20 +69,20 @@ refusal-in-table s (reports h sample) =
 -- "A refusal returns its number only; the schedule .. as .. before the call."
 pub refusal-keeps-schedule : (s : Schedule) {o : Outcome} → Leaves s o → (n : ℕ) → o .answer ≡ refused n → o .schedule ≡ s
 unfolding admitDone dropDone reportDone
-refusal-keeps-schedule s (admits h i f c) =
-    admit-cases s h i f c (Keeps s) (λ m n e. refl) (λ a n e. let z : _≡_ {A = ℕ} 0 1 = cc in absurd (omega arith))
+refusal-keeps-schedule s (admits h lo hi f c) =
+    admit-cases s h lo hi f c (Keeps s) (λ m n e. refl) (λ a n e. let z : _≡_ {A = ℕ} 0 1 = cc in absurd (omega arith))
 refusal-keeps-schedule s (drops h) =
     drop-cases s h (Keeps s) (λ m n e. refl) (λ p q n e. let z : _≡_ {A = ℕ} 0 1 = cc in absurd (omega arith))
 refusal-keeps-schedule s (reports h sample) = report-cases s h sample (Keeps s) (λ m n e. refl) (λ r n e. absurd (answered (taken (s .connections)) (connection s h) sample n e))
 
 -- "what each call leaves [is] shown to be so": good.
 pub call-good : (s : Schedule) → Good s → {o : Outcome} → Leaves s o → Good (o .schedule)
-call-good s good (admits h i f c) = admit-good s good h i f c
+call-good s good (admits h lo hi f c) = admit-good s good h lo hi f c
 call-good s good (drops h) = drop-good s good h
 call-good s good (reports h sample) = report-good s good h sample
 
 -- Free slots stay zeros.
 pub call-zero : (s : Schedule) → Good s → FreeSlotsZero s → {o : Outcome} → Leaves s o → FreeSlotsZero (o .schedule)
-call-zero s good z (admits h i f c) = admit-zero s good h i f c z
+call-zero s good z (admits h lo hi f c) = admit-zero s good h lo hi f c z
 call-zero s good z (drops h) = drop-zero s good h z
 call-zero s good z (reports h sample) = report-zero s good h sample z

@@ -23,11 +23,11 @@ alike s t j e = ap (λ (c : Connection). c .live) e
 
 module _ (s : Schedule) (good : Good s) (h : ℕ) where
   -- An accepted admission makes its own handle live, and no other.
-  pub admit-lives : (i f c F A L : ℕ) → admit s h i f c .answer ≡ ok F A L → isLive (admit s h i f c .schedule) h ≡ true
-  admit-lives i f c F A L e = ap (λ (x : Connection). x .live) (admit-stored s good h i f c F A L e .3)
+  pub admit-lives : (lo hi f c F A L : ℕ) → admit s h lo hi f c .answer ≡ ok F A L → isLive (admit s h lo hi f c .schedule) h ≡ true
+  admit-lives lo hi f c F A L e = ap (λ (x : Connection). x .live) (admit-stored s good h lo hi f c F A L e .4)
 
-  pub admit-lives-other : (i f c j : ℕ) → j ≢ h → isLive (admit s h i f c .schedule) j ≡ isLive s j
-  admit-lives-other i f c j n = alike s (admit s h i f c .schedule) j (admit-others s good h i f c j n)
+  pub admit-lives-other : (lo hi f c j : ℕ) → j ≢ h → isLive (admit s h lo hi f c .schedule) j ≡ isLive s j
+  admit-lives-other lo hi f c j n = alike s (admit s h lo hi f c .schedule) j (admit-others s good h lo hi f c j n)
 
   -- An accepted drop ends its own handle, and no other.
   pub drop-lives : dropHandle s h .answer ≡ dropped → isLive (dropHandle s h .schedule) h ≡ false

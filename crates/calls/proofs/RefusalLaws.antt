@@ -1,13 +1,18 @@
 -- The laws of a call's checks.
 use mathlib.Core.Path.{_≡_, refl, sym, ap, _∙_}
-use mathlib.Core.Bool.{Bool, true, false, cond}
+use mathlib.Core.Bool.{Bool, true, false, not, _&&_, cond, false≢true}
 use mathlib.Core.List.{List, [], _∷_}
 use mathlib.Core.Logic.{_↔_, _⊎_, inl, inr, ⊎-elim}
-use Prim.Native.Nat.{ℕ}
+use Prim.Native.Nat.{ℕ, zero, suc, _<_}
+use native.Mathlib.Omega.{arith}
+use lib.Dec.{eqb}
+use lib.ListN.{length, getD, take}
+use borrow.Author.Tests.{eq-eqb}
 use Rattle.rules.specs.declared.Refusal.{Refusal}
 use Rattle.rules.specs.declared.Schedule.{Schedule}
 use Rattle.rules.specs.Refusals.{number, Check, decided}
 use Rattle.rules.specs.Answers.{Answer, Outcome, refused, refusing}
+use Rattle.basics.proofs.BoolLaws.{both}
 
 -- No check refuses.
 abbrev pub Passed : List Check → Type 0
@@ -91,3 +96,46 @@ refusing-exactly cs s done never n =
     let e = decided-map (λ (o : Outcome). o .answer) cs (refusing s) done in
     let r = refused-exactly cs (done .answer) never n in
     (λ x. r .0 (sym e ∙ x), λ x. e ∙ r .1 x)
+
+-- ---- checks of different numbers
+-- No check has the number n.
+abbrev pub without : ℕ → List Check → Bool
+without n [] = true
+without n (c ∷ cs) = not (eqb (number (c .why)) n) && without n cs
+
+abbrev pub distinct : List Check → Bool
+distinct [] = true
+distinct (c ∷ cs) = without (number (c .why)) cs && distinct cs
+
+without-at : (cs : List Check) (n i : ℕ) (other : Check) → without n cs ≡ true → i < length cs → number (getD cs i other .why) ≡ n → ⊥
+without-at [] n i other w l e = omega arith
+without-at (c ∷ cs) n zero other w l e = false≢true (sym (ap not (eq-eqb (number (c .why)) n e)) ∙ both (not (eqb (number (c .why)) n)) (without n cs) w .0)
+without-at (c ∷ cs) n (suc i) other w l e = without-at cs n i other (both (not (eqb (number (c .why)) n)) (without n cs) w .1) (omega arith) e
+
+without-first : (cs : List Check) (n : ℕ) → without n cs ≡ true → FirstRefusal cs n → ⊥
+without-first [] n w e = e
+without-first (c ∷ cs) n w e =
+    let p = both (not (eqb (number (c .why)) n)) (without n cs) w in
+    ⊎-elim (λ v. false≢true (sym (ap not (eq-eqb (number (c .why)) n (v .1))) ∙ p .0)) (λ v. without-first cs n (p .1) (v .1)) e
+
+-- The first that refuses is check i, from 0 on, exactly if it refuses and those before it pass.
+first-at : (cs : List Check) (i : ℕ) (other : Check) → distinct cs ≡ true → i < length cs
+    → FirstRefusal cs (number (getD cs i other .why)) ↔ (Passed (take i cs) × (getD cs i other .refuses ≡ true))
+first-at [] i other d l = absurd (omega arith)
+first-at (c ∷ cs) zero other d l =
+    let p = both (without (number (c .why)) cs) (distinct cs) d in
+    (⊎-elim (λ w. (tt, w .0)) (λ w. absurd (without-first cs (number (c .why)) (p .0) (w .1))), λ w. inl (w .1, refl))
+first-at (c ∷ cs) (suc i) other d l =
+    let p = both (without (number (c .why)) cs) (distinct cs) d in
+    let r = first-at cs i other (p .1) (omega arith) in (
+      ⊎-elim (λ w. absurd (without-at cs (number (c .why)) i other (p .0) (omega arith) (sym (w .1)))) (λ w. let q = r .0 (w .1) in ((w .0, q .0), q .1)),
+      λ w. inr (w .0 .0, r .1 (w .0 .1, w .1)),
+    )
+
+-- So a call is refused with the number of check i exactly if it refuses and those before it pass; `other` is what a list gives past its end.
+pub refusing-at : (cs : List Check) (s : Schedule) (done : Outcome) → ((n : ℕ) → done .answer ≡ refused n → ⊥) → distinct cs ≡ true → (i : ℕ) (other : Check) → i < length cs
+    → (decided cs (refusing s) done .answer ≡ refused (number (getD cs i other .why))) ↔ (Passed (take i cs) × (getD cs i other .refuses ≡ true))
+refusing-at cs s done never d i other l =
+    let r = refusing-exactly cs s done never (number (getD cs i other .why)) in
+    let q = first-at cs i other d l in
+    (λ e. q .0 (r .0 e), λ w. r .1 (q .1 w))

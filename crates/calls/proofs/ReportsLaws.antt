@@ -23,6 +23,7 @@ use Rattle.rules.specs.Handles.{connection, isLive}
 use Rattle.rules.specs.Report.{roomToGrow, metered, aim, reportAnswer, reportDone, report}
 use Rattle.rules.specs.Reports.{single, afterReports, answersTo, Among, here, later, coded, mostReports, reportsChecks, reportsDone, reportAll}
 use Rattle.basics.proofs.LentLaws.{over-new, over-old, over-length}
+use Rattle.blocks.proofs.ClassLaws.{within-depth}
 use Rattle.calls.proofs.RefusalLaws.{decided-cases, decided-first, decided-passed, refused-same}
 use Rattle.calls.proofs.MeterLaws.{change-cases}
 use Rattle.calls.proofs.AnswerLaws.{number-small}
@@ -262,7 +263,7 @@ report-answers s good h sample =
     (λ r.
     let n = old-numbers s good h sample r in
     let c = connection s h in
-    let deep : 2 ^ (c .k) ≤ 512 = pow-mono (n .deep) in
+    let deep : 2 ^ (c .k) ≤ 512 = pow-mono (within-depth (n .deep)) in
     let small : c .length ≤ 512 = omega (arith, n .ceiled, n .whole) in
     change-cases (c .length) (aim c sample) (roomToGrow (taken (s .connections)) c) (λ a M. OfReport a)
     (λ q. keeps (omega arith)) (λ l. shrinks (omega arith)) (λ l q. grows (omega arith)) (λ l q. holds (omega arith)))

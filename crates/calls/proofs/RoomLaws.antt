@@ -1,111 +1,98 @@
 -- "A new connection is refused for room exactly when no anchor exists whose whole run is free."
-use mathlib.Core.Path.{_≡_, refl, sym, ap, _∙_}
+use mathlib.Core.Path.{_≡_, refl, sym, ap, subst, _∙_}
 use mathlib.Core.Bool.{true, false, not, false≢true}
-use mathlib.Core.Logic.{_↔_, inl, inr, ⊎-elim}
-use mathlib.Core.Option.{Option, none, some}
+use mathlib.Core.Logic.{_↔_}
+use mathlib.Core.Option.{Option, none, some, Option·getD}
 use Prim.Native.Nat.{ℕ, _^_, _<_, _≤_}
 use native.Mathlib.Omega.{arith}
 use borrow.Author.Tests.{le-ltb, ltb-false, not-false}
 use Rattle.rules.specs.declared.Schedule.{Schedule}
 use Rattle.rules.specs.declared.Refusal.the-variants.{NoOpenAnchor}
-use Rattle.rules.specs.Core.{isInterval}
-use Rattle.rules.specs.Ownership.{taken}
+use Rattle.rules.specs.Below.{isNone}
+use Rattle.rules.specs.Core.{isRange}
+use Rattle.rules.specs.Ownership.{largestK, taken}
 use Rattle.rules.specs.Mirror.{mirrored}
 use Rattle.rules.specs.Good.{Good}
-use Rattle.rules.specs.Refusals.{number}
+use Rattle.rules.specs.Refusals.{number, check}
 use Rattle.rules.specs.Answers.{Outcome, refused, refusing, ok}
 use Rattle.rules.specs.Handles.{isLive}
-use Rattle.rules.specs.Admit.{kOf, shareWrong, isOpen, firstOpen, noOpenAnchor, admitChecks, anchorFor, admitDone, admit}
+use Rattle.rules.specs.Admit.{kIn, kFor, shareWrong, isOpen, firstOpen, admitChecks, anchorFor, admitDone, admit}
 use Rattle.basics.proofs.BoolLaws.{is-false}
-use Rattle.calls.proofs.RefusalLaws.{FirstRefusal, refusing-exactly, decided-passed}
+use Rattle.basics.proofs.BelowLaws.{is-none, is-some}
+use Rattle.calls.proofs.RefusalLaws.{decided-passed}
+use Rattle.calls.proofs.RangeLaws.{k-given, k-deep, k-unique, admit-refused-at}
 use Rattle.blocks.proofs.MirrorLaws.{mirror-mirror}
-use Rattle.calls.proofs.AdmitLaws.{RunFreeEver, k-small, open-ever, none-open, open-none, Admissible, admit-cases, anchor-given, anchor-small, anchor-free, first-open}
+use Rattle.calls.proofs.AdmitLaws.{RunFreeEver, open-ever, none-open, open-none, Placeable, Reached, reached, passed, admit-cases, anchor-given, anchor-small, anchor-free, first-open}
 use Rattle.blocks.proofs.ClassLaws.{within-depth}
 use Rattle.blocks.proofs.SoundLaws.{good-connections}
 
 -- The room check is reached, and no anchor below F has its whole run free in endless time.
-pub record NoRoom (s : Schedule) (h i f c : ℕ) : Type 0 where
-  pub handle : h ≤ 63
-  pub unused : isLive s h ≡ false
-  pub interval : isInterval i ≡ true
-  pub share : shareWrong f c (2 ^ kOf i) ≡ false
-  pub shut : (A : ℕ) → A < 2 ^ kOf i → RunFreeEver (s .connections) (kOf i) f A → ⊥
+pub record NoRoom (s : Schedule) (h lo hi f c : ℕ) : Type 0 where
+  pub k : ℕ
+  pub reached : Reached s h lo hi f c k
+  pub shut : (A : ℕ) → A < 2 ^ k → RunFreeEver (s .connections) k f A → ⊥
 
-nowhere : (o : Option ℕ) → noOpenAnchor o ≡ true → o ≡ none
-nowhere none e = refl
-nowhere (some p) e = absurd (false≢true e)
-
-module _ (s : Schedule) (good : Good s) (h i f c : ℕ) where
-  shut-none : firstOpen (taken (s .connections)) (kOf i) f ≡ none → (A : ℕ) → A < 2 ^ kOf i → RunFreeEver (s .connections) (kOf i) f A → ⊥
+module _ (s : Schedule) (good : Good s) (k : ℕ) (deep : k ≤ largestK) (f : ℕ) where
+  shut-none : firstOpen (taken (s .connections)) k f ≡ none → (A : ℕ) → A < 2 ^ k → RunFreeEver (s .connections) k f A → ⊥
   shut-none e A l r =
-      false≢true (sym (none-open (taken (s .connections)) (kOf i) f e A l) ∙ open-ever (s .connections) (kOf i) f A (good-connections s good) (within-depth (k-small i)) .1 r)
+      false≢true (sym (none-open (taken (s .connections)) k f e A l) ∙ open-ever (s .connections) k f A (good-connections s good) (within-depth deep) .1 r)
 
-  none-shut : ((A : ℕ) → A < 2 ^ kOf i → RunFreeEver (s .connections) (kOf i) f A → ⊥) → firstOpen (taken (s .connections)) (kOf i) f ≡ none
+  none-shut : ((A : ℕ) → A < 2 ^ k → RunFreeEver (s .connections) k f A → ⊥) → firstOpen (taken (s .connections)) k f ≡ none
   none-shut x =
-      open-none (taken (s .connections)) (kOf i) f (λ A l.
-      is-false (isOpen (taken (s .connections)) (kOf i) f A) (λ t. x A l (open-ever (s .connections) (kOf i) f A (good-connections s good) (within-depth (k-small i)) .0 t)))
+      open-none (taken (s .connections)) k f (λ A l.
+      is-false (isOpen (taken (s .connections)) k f A) (λ t. x A l (open-ever (s .connections) k f A (good-connections s good) (within-depth deep) .0 t)))
 
-  never : (n : ℕ) → admitDone s h (kOf i) f c .answer ≡ refused n → ⊥
-  unfolding admitDone
-  never n e = let z : _≡_ {A = ℕ} 0 1 = cc in omega arith
-
-  pub no-room-exactly : (admit s h i f c .answer ≡ refused (number NoOpenAnchor)) ↔ NoRoom s h i f c
-  unfolding admit admitChecks
+module _ (s : Schedule) (good : Good s) (h lo hi f c : ℕ) where
+  pub no-room-exactly : (admit s h lo hi f c .answer ≡ refused (number NoOpenAnchor)) ↔ NoRoom s h lo hi f c
+  unfolding admitChecks
   no-room-exactly =
-      let r = refusing-exactly (admitChecks s h i f c) s (admitDone s h (kOf i) f c) never (number NoOpenAnchor) in
-      (λ e. to (r .0 e), λ n. r .1 (from n))
-    where
-      to : FirstRefusal (admitChecks s h i f c) (number NoOpenAnchor) → NoRoom s h i f c
-      to =
-          ⊎-elim (λ w. let x = w .1 in absurd (omega arith))
-          (λ w₁. ⊎-elim (λ w. let x = w .1 in absurd (omega arith))
-          (λ w₂. ⊎-elim (λ w. let x = w .1 in absurd (omega arith))
-          (λ w₄. ⊎-elim (λ w. let x = w .1 in absurd (omega arith))
-          (λ w₅. ⊎-elim
-          (λ w₆.
-          record {
-            handle = ltb-false 63 h (w₁ .0);
-            unused = w₂ .0;
-            interval = not-false (isInterval i) (w₄ .0);
-            share = w₅ .0;
-            shut = shut-none (nowhere (firstOpen (taken (s .connections)) (kOf i) f) (w₆ .0));
-          })
-          (λ w. absurd (w .1)) (w₅ .1)) (w₄ .1)) (w₂ .1)) (w₁ .1))
+      let r = admit-refused-at s h lo hi f c 5 (check NoOpenAnchor true) (omega arith) in (
+        λ e.
+            let w = r .0 e in
+            let g = reached s h lo hi f c (w .0) in
+            let given = g .1 .given in
+            record {
+              k = g .0;
+              reached = g .1;
+              shut = shut-none s good (g .0) (k-deep lo hi (g .0) given) f (is-none _ (rw (k-given lo hi (g .0) given) at (w .1)));
+            },
+        λ n.
+            let given = n .reached .given in
+            r .1 (passed s h lo hi f c (n .k) (n .reached), rw (k-given lo hi (n .k) given) (ap isNone (none-shut s good (n .k) (k-deep lo hi (n .k) given) f (n .shut)))),
+      )
 
-      from : NoRoom s h i f c → FirstRefusal (admitChecks s h i f c) (number NoOpenAnchor)
-      from n =
-          inr (le-ltb 63 h (n .handle), inr (n .unused, inr (ap not (n .interval), inr (n .share, inl (ap noOpenAnchor (none-shut (n .shut)), refl)))))
-
--- Where the other checks pass, it is accepted exactly if some anchor has its whole run free.
-module _ (s : Schedule) (good : Good s) (h i f c : ℕ) (handle : h ≤ 63) (unused : isLive s h ≡ false) (interval : isInterval i ≡ true)
-    (share : shareWrong f c (2 ^ kOf i) ≡ false) where
+-- Where it is reached, it is accepted exactly if some anchor has its whole run free.
+module _ (s : Schedule) (good : Good s) (h lo hi f c k : ℕ) (r : Reached s h lo hi f c k) where
   abbrev Accepted : Outcome → Type 0
   Accepted o = (F : ℕ) × (A : ℕ) × (L : ℕ) × (o .answer ≡ ok F A L)
 
-  placed : (o : Option ℕ) → firstOpen (taken (s .connections)) (kOf i) f ≡ o → ((A : ℕ) × (A < 2 ^ kOf i) × RunFreeEver (s .connections) (kOf i) f A) → Accepted (admit s h i f c)
+  placed : (o : Option ℕ) → firstOpen (taken (s .connections)) k f ≡ o → ((A : ℕ) × (A < 2 ^ k) × RunFreeEver (s .connections) k f A) → Accepted (admit s h lo hi f c)
   unfolding admit admitChecks admitDone
-  placed none e w = absurd (shut-none s good h i f c e (w .0) (w .1) (w .2))
+  placed none e w = absurd (shut-none s good k (k-deep lo hi k (r .given)) f e (w .0) (w .1) (w .2))
   placed (some p) e w =
+      let t = passed s h lo hi f c k r in
       let done =
-      decided-passed (admitChecks s h i f c) (refusing s) (admitDone s h (kOf i) f c)
-      (le-ltb 63 h handle, (unused, (ap not interval, (share, (ap noOpenAnchor e, tt))))) in
-      (2 ^ kOf i, anchorFor s (kOf i) f, f, ap (λ (o : Outcome). o .answer) done)
+      decided-passed (admitChecks s h lo hi f c) (refusing s) (admitDone s h (kFor lo hi) f c)
+      (t .0, (t .1 .0, (t .1 .1 .0, (t .1 .1 .1 .0, (t .1 .1 .1 .1 .0, (rw (k-given lo hi k (r .given)) (ap isNone e), tt)))))) in
+      (2 ^ kFor lo hi, anchorFor s (kFor lo hi) f, f, ap (λ (o : Outcome). o .answer) done)
 
-  pub room-exactly : Accepted (admit s h i f c) ↔ ((A : ℕ) × (A < 2 ^ kOf i) × RunFreeEver (s .connections) (kOf i) f A)
+  pub room-exactly : Accepted (admit s h lo hi f c) ↔ ((A : ℕ) × (A < 2 ^ k) × RunFreeEver (s .connections) k f A)
   unfolding admitDone
   room-exactly = (
-    admit-cases s h i f c (λ o. Accepted o → (A : ℕ) × (A < 2 ^ kOf i) × RunFreeEver (s .connections) (kOf i) f A)
+    admit-cases s h lo hi f c (λ o. Accepted o → (A : ℕ) × (A < 2 ^ k) × RunFreeEver (s .connections) k f A)
         (λ n w. let e = w .3 in let z : _≡_ {A = ℕ} 0 1 = cc in absurd (omega arith))
-        (λ a w. (anchorFor s (kOf i) f, anchor-small s good h i f c a, anchor-free s good h i f c a)),
-    placed (firstOpen (taken (s .connections)) (kOf i) f) refl,
+        (λ a w.
+        let q = k-unique lo hi (a .k) k (a .reached .given) (r .given) in
+        subst (λ (k : ℕ). (A : ℕ) × (A < 2 ^ k) × RunFreeEver (s .connections) k f A) q
+        (anchorFor s (a .k) f, anchor-small s (a .k) f, anchor-free s (a .k) f c (a .placeable) good)),
+    placed (firstOpen (taken (s .connections)) k f) refl,
   )
 
 -- "the first anchor whose whole run is free is taken": none with a lower node number 2^k + mirrored A has its run free.
-pub anchor-first : (s : Schedule) → Good s → (h i f c : ℕ) → Admissible s h i f c
-    → (A : ℕ) → A < 2 ^ kOf i → mirrored (kOf i) A < mirrored (kOf i) (anchorFor s (kOf i) f) → RunFreeEver (s .connections) (kOf i) f A → ⊥
-anchor-first s good h i f c a A l m r =
-    let k = kOf i in
+pub anchor-first : (s : Schedule) → Good s → (k f c : ℕ) → Placeable s k f c
+    → (A : ℕ) → A < 2 ^ k → mirrored k A < mirrored k (anchorFor s k f) → RunFreeEver (s .connections) k f A → ⊥
+anchor-first s good k f c a A l m r =
     let w = first-open (taken (s .connections)) k f (a .place .0) (a .place .1) in
-    let p : mirrored k (anchorFor s k f) ≡ a .place .0 = ap (mirrored k) (anchor-given s good h i f c a) ∙ mirror-mirror k (a .place .0) (w .0) in
+    let p : mirrored k (anchorFor s k f) ≡ a .place .0 = ap (mirrored k) (anchor-given s k f c a) ∙ mirror-mirror k (a .place .0) (w .0) in
     let q : isOpen (taken (s .connections)) k f A ≡ false = ap (isOpen (taken (s .connections)) k f) (sym (mirror-mirror k A l)) ∙ w .2 (mirrored k A) (omega arith) in
-    false≢true (sym q ∙ open-ever (s .connections) k f A (good-connections s good) (within-depth (k-small i)) .1 r)
+    false≢true (sym q ∙ open-ever (s .connections) k f A (good-connections s good) (within-depth (a .deep)) .1 r)

@@ -12,12 +12,12 @@ use Rattle.rules.specs.Good.{fresh, withConnections}
 use Rattle.rules.specs.Records.{Piece, begin, piecesOf}
 use Rattle.rules.specs.Load.{soundRecords, atHandles}
 use Rattle.basics.proofs.BelowLaws.{largest-unique}
-use Rattle.images.proofs.RestoreLaws.{clash-first, apart-none}
+use Rattle.images.proofs.RestoreLaws.{clash-first}
 use Rattle.restore.specs.Promises.{records, mostApart, Restores}
 
 module _ (rs : List Piece) where
   most-is : (i : ℕ) → i ≤ length rs → apart (atHandles (take i rs)) ≡ true → ((j : ℕ) → i < j → j ≤ length rs → apart (atHandles (take j rs)) ≡ false) → mostApart rs ≡ i
-  most-is i l a last = largest-unique (length rs) (λ i. apart (atHandles (take i rs))) i l apart-none a last
+  most-is i l a last = largest-unique (length rs) (λ i. apart (atHandles (take i rs))) i l a last
 
   -- All are apart;
   pub most-all : apart (atHandles rs) ≡ true → mostApart rs ≡ length rs

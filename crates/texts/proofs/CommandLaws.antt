@@ -8,7 +8,7 @@ use lib.Dec.{eqb}
 use lib.ListN.{length, getD, drop, length-append, take-append-drop}
 use borrow.Author.Tests.{eqb-true}
 use Rattle.rules.specs.declared.Command.{Command}
-use Rattle.rules.specs.declared.Command.the-variants.{Admit, Drop, Report, Owner, Anchor}
+use Rattle.rules.specs.declared.Command.the-variants.{Admit, AdmitRange, Drop, Report, Owner, Anchor}
 use Rattle.rules.specs.declared.Line.{Line}
 use Rattle.rules.specs.declared.Line.the-variants.{Says, Bad}
 use Rattle.rules.specs.Below.{tabulate}
@@ -36,6 +36,7 @@ word-spaceless c = rw (clean c) at (before-without (byte " ") (wordOf c))
   where
     clean : (c : Command) → before (byte " ") (wordOf c) ≡ wordOf c
     clean (Admit handle interval floor ceiling) = refl
+    clean (AdmitRange handle smallest largest floor ceiling) = refl
     clean (Drop handle) = refl
     clean (Report handle sample) = refl
     clean (Owner block) = refl
@@ -43,6 +44,7 @@ word-spaceless c = rw (clean c) at (before-without (byte " ") (wordOf c))
 
 pub numbers-most : (c : Command) → length (numbersOf c) ≤ mostNumbers
 numbers-most (Admit handle interval floor ceiling) = omega arith
+numbers-most (AdmitRange handle smallest largest floor ceiling) = omega arith
 numbers-most (Drop handle) = omega arith
 numbers-most (Report handle sample) = omega arith
 numbers-most (Owner block) = omega arith
@@ -52,6 +54,7 @@ numbers-most (Anchor handle block) = omega arith
 pub named-own : (c : Command) → named (wordOf c) (numbersOf c) ≡ Says c
 unfolding named same
 named-own (Admit handle interval floor ceiling) = refl
+named-own (AdmitRange handle smallest largest floor ceiling) = refl
 named-own (Drop handle) = refl
 named-own (Report handle sample) = refl
 named-own (Owner block) = refl
@@ -83,6 +86,7 @@ module _ (word ns : List ℕ) (d : Command) where
   unfolding named tabulate
   named-only e =
       by-form (text "admit") 4 _ _ refl refl e λ e.
+      by-form (text "admit") 5 _ _ refl refl e λ e.
       by-form (text "drop") 1 _ _ refl refl e λ e.
       by-form (text "report") 2 _ _ refl refl e λ e.
       by-form (text "owner") 1 _ _ refl refl e λ e.
@@ -108,16 +112,21 @@ line-unique c d e = let same : Says c ≡ Says d = sym (guess-line c) ∙ ap gue
 pub line-length : (c : Command) → 6 ≤ length (lineOf c)
 unfolding lineOf spaced
 line-length (Admit handle interval floor ceiling) = omega arith
+line-length (AdmitRange handle smallest largest floor ceiling) = omega arith
 line-length (Drop handle) = omega (arith, length-append (decimal handle) [], decimal-digits handle .some-digit)
 line-length (Report handle sample) = omega arith
 line-length (Owner block) = omega arith
 line-length (Anchor handle block) = omega arith
 
 -- ---- a line, and what it says
+-- A command written out says that command where its numbers fit, and is bad where one does not.
+pub says-own : (c : Command) → says (lineOf c) ≡ cond (allFit (numbersOf c)) (Says c) Bad
+unfolding says confirmed
+says-own c = rw (guess-line c, same-exactly (lineOf c) (lineOf c) .1 refl)
+
 -- A line is read as a command exactly if it is that command written out, with numbers that fit;
 pub says-line : (c : Command) → allFit (numbersOf c) ≡ true → says (lineOf c) ≡ Says c
-unfolding says confirmed
-says-line c h = rw (guess-line c, same-exactly (lineOf c) (lineOf c) .1 refl, h)
+says-line c h = rw (says-own c, h)
 
 pub says-only : (line : List ℕ) (c : Command) → says line ≡ Says c → (line ≡ lineOf c) × (allFit (numbersOf c) ≡ true)
 unfolding says confirmed

@@ -3,3 +3,4 @@ pub mod DecimalLaws
 pub mod SplitLaws
 pub mod RowLaws
 pub mod CommandLaws
+pub mod SingleLaws

@@ -30,4 +30,4 @@ pub record IsRow (bytes ns : List ℕ) : Type 0 where
 
 -- No command has more numbers.
 abbrev pub mostNumbers : ℕ
-mostNumbers = 4
+mostNumbers = 5

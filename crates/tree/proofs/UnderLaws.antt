@@ -11,6 +11,7 @@ use lib.Dec.{eqb}
 use borrow.Author.Tests.{eq-eqb, ne-eqb}
 use Rattle.rules.specs.Classes.{inClass, depth}
 use Rattle.rules.specs.Mirror.{mirrored}
+use Rattle.basics.proofs.BoolLaws.{neither}
 use Rattle.blocks.proofs.MirrorLaws.{mirror-lt, mirror-mirror, mirror-low}
 use Rattle.tree.specs.Under.{under}
 use Rattle.tree.proofs.Bits.{eqb-iff}
@@ -82,10 +83,6 @@ under-more (suc l) n v h =
     let h′ : v / 2 < n * 2 ^ suc l = omega (arith, rw (pow-suc 2 (suc l)) at h) in
     ap (λ (b : Bool). eqb v n || b) (under-more l n (v / 2) h′)
 
-second-false : (a b : Bool) → a || b ≡ false → b ≡ false
-second-false true b e = absurd (false≢true (sym e))
-second-false false b e = e
-
 first-false : (m v l : ℕ) → under (suc l) m v ≡ false → m ≢ v
 unfolding under
 first-false m v l e q = false≢true (sym e ∙ rw (eq-eqb v m (sym q)))
@@ -98,7 +95,7 @@ pub above-less : (m v : ℕ) → 0 < m → v < 1024 → under depth m v ≡ fals
 unfolding under
 above-less m v hm hv e =
     let g : v / 2 < m * 2 ^ 9 = omega arith in
-    under-more 8 m (v / 2) g ∙ second-false (eqb v m) (under 8 m (v / 2)) e
+    under-more 8 m (v / 2) g ∙ neither (eqb v m) (under 8 m (v / 2)) e .1
 
 -- a child of a node lies under n exactly if the node does, unless the child is n itself
 pub child-under : (l n a x : ℕ) → x / 2 ≡ a → x ≢ n → a < n * 2 ^ l → under l n x ≡ under l n a
