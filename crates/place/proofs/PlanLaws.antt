@@ -14,11 +14,13 @@ use Rattle.rules.specs.Good.{withConnection}
 use Rattle.rules.specs.Refusals.{number}
 use Rattle.rules.specs.Answers.{Outcome, refusing, ok}
 use Rattle.rules.specs.Handles.{isLive}
-use Rattle.rules.specs.Admit.{kOf, firstOpen, newConnection, placeChecks, admitChecks, anchorFor, admitDone, admit}
+use Rattle.rules.specs.Admit.{kIn, kFor, firstOpen, newConnection, placeChecks, admitChecks, anchorFor, admitDone, admit}
 use Rattle.rules.specs.Steps.{Step, gives, places, passes, refuses}
 use Rattle.place.specs.Steps.{planStep}
 use Rattle.blocks.proofs.MirrorLaws.{mirror-lt}
-use Rattle.calls.proofs.AdmitLaws.{k-small, share-bounds}
+use Rattle.basics.proofs.BelowLaws.{is-some}
+use Rattle.calls.proofs.RangeLaws.{k-given, k-deep}
+use Rattle.calls.proofs.AdmitLaws.{share-bounds}
 use Rattle.calls.proofs.RefusalLaws.{decided-map, decided-cases}
 
 -- What becomes of a plan.
@@ -28,18 +30,18 @@ carry s h f c (places k A) = record { answer = ok (2 ^ k) A f; schedule = withCo
 carry s h f c passes = refusing s 0
 carry s h f c (refuses n) = refusing s n
 
-module _ (s : Schedule) (h i f c : ℕ) where
-  pub admit-1 : 63 < h → admit s h i f c ≡ refusing s (number HandleAbove63)
+module _ (s : Schedule) (h lo hi f c : ℕ) where
+  pub admit-1 : 63 < h → admit s h lo hi f c ≡ refusing s (number HandleAbove63)
   unfolding admit admitChecks
   admit-1 p = rw (lt-ltb 63 h p)
 
-  pub admit-plan : h ≤ 63 → admit s h i f c ≡ carry s h f c (planStep (isLive s h) (taken (s .connections)) i f c)
+  pub admit-plan : h ≤ 63 → admit s h lo hi f c ≡ carry s h f c (planStep (isLive s h) (taken (s .connections)) lo hi f c)
   unfolding admit admitChecks admitDone anchorFor planStep
   admit-plan p =
       rw (le-ltb 63 h p)
       (sym (decided-map (carry s h f c)
-      (placeChecks (isLive s h) (taken (s .connections)) i f c)
-      refuses (places (kOf i) (mirrored (kOf i) (Option·getD (firstOpen (taken (s .connections)) (kOf i) f) 0)))))
+      (placeChecks (isLive s h) (taken (s .connections)) lo hi f c)
+      refuses (places (kFor lo hi) (mirrored (kFor lo hi) (Option·getD (firstOpen (taken (s .connections)) (kFor lo hi) f) 0)))))
 
 -- What a plan that places tells: the bounds of its numbers.
 pub record Planned (k A f c : ℕ) : Type 0 where
@@ -49,26 +51,27 @@ pub record Planned (k A f c : ℕ) : Type 0 where
   pub floored : f ≤ c
   pub whole : c ≤ 2 ^ k
 
-pub planned-free : (live : Bool) (t : ℕ → Bool) (i f c k A : ℕ) → planStep live t i f c ≡ places k A → live ≡ false
+pub planned-free : (live : Bool) (t : ℕ → Bool) (lo hi f c k A : ℕ) → planStep live t lo hi f c ≡ places k A → live ≡ false
 unfolding planStep
-planned-free true t i f c k A e = let z : _≡_ {A = ℕ} 0 1 = cc in absurd (omega arith)
-planned-free false t i f c k A e = refl
+planned-free true t lo hi f c k A e = let z : _≡_ {A = ℕ} 0 1 = cc in absurd (omega arith)
+planned-free false t lo hi f c k A e = refl
 
-pub planned : (live : Bool) (t : ℕ → Bool) (i f c k A : ℕ) → planStep live t i f c ≡ places k A → Planned k A f c
+pub planned : (live : Bool) (t : ℕ → Bool) (lo hi f c k A : ℕ) → planStep live t lo hi f c ≡ places k A → Planned k A f c
 unfolding planStep
-planned live t i f c k A =
+planned live t lo hi f c k A =
     decided-cases (λ x. x ≡ places k A → Planned k A f c)
-    (placeChecks live t i f c)
-    refuses (places (kOf i) (mirrored (kOf i) (Option·getD (firstOpen t (kOf i) f) 0)))
+    (placeChecks live t lo hi f c)
+    refuses (places (kFor lo hi) (mirrored (kFor lo hi) (Option·getD (firstOpen t (kFor lo hi) f) 0)))
     (λ n e. let z : _≡_ {A = ℕ} 0 1 = cc in absurd (omega arith))
     (λ p e.
-    let q : kOf i ≡ k = cc in
-    let r : mirrored (kOf i) (Option·getD (firstOpen t (kOf i) f) 0) ≡ A = cc in
-    let b = share-bounds f c (2 ^ kOf i) (p .1 .1 .0) in
-    let w : 2 ^ kOf i ≡ 2 ^ k = ap (λ (x : ℕ). 2 ^ x) q in
+    let q : kFor lo hi ≡ k = cc in
+    let r : mirrored (kFor lo hi) (Option·getD (firstOpen t (kFor lo hi) f) 0) ≡ A = cc in
+    let b = share-bounds f c (2 ^ kFor lo hi) (p .1 .1 .1 .0) in
+    let g = is-some (kIn lo hi) (p .1 .1 .0) in
+    let w : 2 ^ kFor lo hi ≡ 2 ^ k = ap (λ (x : ℕ). 2 ^ x) q in
     record {
-      deep = omega (arith, k-small i);
-      anchored = omega (arith, mirror-lt (kOf i) (Option·getD (firstOpen t (kOf i) f) 0));
+      deep = omega (arith, k-deep lo hi (g .0) (g .1), k-given lo hi (g .0) (g .1));
+      anchored = omega (arith, mirror-lt (kFor lo hi) (Option·getD (firstOpen t (kFor lo hi) f) 0));
       positive = b .0;
       floored = b .1;
       whole = omega arith;

@@ -1,23 +1,25 @@
 -- The steps of an admission, by the tests on their way.
-use mathlib.Core.Path.{_≡_, refl}
-use mathlib.Core.Bool.{Bool, true, false, cond}
+use mathlib.Core.Path.{_≡_, refl, sym, ap, _∙_}
+use mathlib.Core.Bool.{Bool, true, false, not, _||_, cond, false≢true}
 use mathlib.Core.Option.{Option, none, some}
 use Prim.Native.Nat.{ℕ, _*_, _^_, _<_, _≤_}
 use native.Mathlib.Omega.{arith}
-use borrow.Author.Tests.{le-leb, lt-leb, lt-ltb, le-ltb, eq-eqb, ne-eqb}
+use lib.Dec.{ltb}
+use borrow.Author.Tests.{le-leb, lt-leb, lt-ltb, le-ltb, ltb-true, ltb-false, eq-eqb, ne-eqb, not-false}
 use Rattle.rules.specs.Ownership.{largestK}
-use Rattle.rules.specs.declared.Refusal.the-variants.{HandleLive, IntervalOutside, ShareWrong, NoOpenAnchor}
-use Rattle.rules.specs.Core.{isInterval}
+use Rattle.rules.specs.declared.Refusal.the-variants.{HandleLive, IntervalOutside, NoInterval, ShareWrong, NoOpenAnchor}
+use Rattle.rules.specs.Core.{isInterval, isRange}
 use Rattle.rules.specs.Mirror.{mirrored}
 use Rattle.rules.specs.Refusals.{number}
-use Rattle.rules.specs.Admit.{intervalOutside, kOf, shareWrong, firstOpen}
+use Rattle.rules.specs.Admit.{intervalOutside, kOf, kIn, shareWrong, firstOpen}
 use Rattle.rules.specs.Steps.{Step, gives, places, passes, refuses}
-use Rattle.place.specs.Steps.{intervalStep, shareStep, placeAt, placeStep, planStep}
-use Rattle.calls.proofs.AdmitLaws.{k-is}
+use Rattle.place.specs.Steps.{intervalStep, smallestStep, rangeStep, shareStep, placeAt, placeStep, planStep}
+use Rattle.basics.proofs.BoolLaws.{is-false, neither}
+use Rattle.calls.proofs.RangeLaws.{interval-bounds, interval-is, range-bounds, range-is, k-is, k-held, k-missed}
 
 pub interval-gives : (k i : ℕ) → k ≤ largestK → 6 * 2 ^ k ≤ i → i < 12 * 2 ^ k → (6 ≤ i) × (i ≤ 3200) → gives k ≡ intervalStep i
-unfolding intervalStep isInterval
-interval-gives k i h l m b = rw (le-leb 6 i (b .0), le-leb i 3200 (b .1), k-is k i h l m)
+unfolding intervalStep
+interval-gives k i h l m b = rw (k-is k i h l m, interval-is i (b .0) (b .1))
 
 pub interval-below : (i : ℕ) → i < 6 → refuses (number IntervalOutside) ≡ intervalStep i
 unfolding intervalStep isInterval
@@ -26,6 +28,28 @@ interval-below i h = rw (lt-leb 6 i h)
 pub interval-above : (i : ℕ) → 3200 < i → refuses (number IntervalOutside) ≡ intervalStep i
 unfolding intervalStep isInterval
 interval-above i h = rw (le-leb 6 i (omega arith), lt-leb i 3200 h)
+
+module _ (lo hi : ℕ) where
+  pub smallest-low : lo < 6 → refuses (number IntervalOutside) ≡ smallestStep lo hi
+  unfolding smallestStep
+  smallest-low h = rw (lt-ltb lo 6 h)
+
+  pub smallest-high : 6 ≤ lo → hi < lo → refuses (number IntervalOutside) ≡ smallestStep lo hi
+  unfolding smallestStep
+  smallest-high h l = rw (le-ltb lo 6 h, lt-ltb hi lo l)
+
+  pub smallest-right : 6 ≤ lo → lo ≤ hi → passes ≡ smallestStep lo hi
+  unfolding smallestStep
+  smallest-right h l = rw (le-ltb lo 6 h, le-ltb hi lo l)
+
+module _ (lo F : ℕ) where
+  pub range-misses : 6 * F < lo → refuses (number NoInterval) ≡ rangeStep lo F
+  unfolding rangeStep
+  range-misses h = rw (lt-ltb (6 * F) lo h)
+
+  pub range-holds : lo ≤ 6 * F → passes ≡ rangeStep lo F
+  unfolding rangeStep
+  range-holds h = rw (le-ltb (6 * F) lo h)
 
 module _ (floor ceiling F : ℕ) where
   pub share-zero : floor ≡ 0 → refuses (number ShareWrong) ≡ shareStep floor ceiling F
@@ -53,16 +77,51 @@ told : (b : Bool) (x y z : Step) → z ≡ cond b x y → (z ≡ y → ⊥) → 
 told true x y z e n = refl
 told false x y z e n = absurd (n e)
 
-pub interval-told : (i k : ℕ) → gives k ≡ intervalStep i → (intervalOutside i ≡ false) × (k ≡ kOf i)
+pub interval-told : (i k : ℕ) → gives k ≡ intervalStep i → (isInterval i ≡ true) × (k ≡ kOf i)
 unfolding intervalStep
 interval-told i k e =
-    let w = tells (intervalOutside i) (refuses (number IntervalOutside)) (gives (kOf i)) (gives k) e (λ q. let z : _≡_ {A = ℕ} 0 1 = cc in absurd (omega arith)) in
+    let w = tells (not (isInterval i)) (refuses (number IntervalOutside)) (gives (kOf i)) (gives k) e (λ q. let z : _≡_ {A = ℕ} 0 1 = cc in absurd (omega arith)) in
     let q = w .1 in
-    (w .0, (cc))
+    (not-false (isInterval i) (w .0), (cc))
 
-pub outside-told : (i : ℕ) → refuses (number IntervalOutside) ≡ intervalStep i → intervalOutside i ≡ true
+-- Refused by the largest, or by the smallest: then the bounds are no range.
+pub interval-refused : (lo hi : ℕ) → refuses (number IntervalOutside) ≡ intervalStep hi → intervalOutside lo hi ≡ true
 unfolding intervalStep
-outside-told i e = told (intervalOutside i) (refuses (number IntervalOutside)) (gives (kOf i)) (refuses (number IntervalOutside)) e (λ q. let z : _≡_ {A = ℕ} 0 1 = cc in absurd (omega arith))
+interval-refused lo hi e =
+    let o = told (not (isInterval hi)) (refuses (number IntervalOutside)) (gives (kOf hi)) (refuses (number IntervalOutside)) e (λ q. let z : _≡_ {A = ℕ} 0 1 = cc in absurd (omega arith)) in
+    ap not (is-false (isRange lo hi) (λ r. false≢true (sym (ap not (range-bounds lo hi r .1)) ∙ o)))
+
+pub smallest-refused : (lo hi : ℕ) → refuses (number IntervalOutside) ≡ smallestStep lo hi → intervalOutside lo hi ≡ true
+unfolding smallestStep
+smallest-refused lo hi e =
+    let o = told (ltb lo 6 || ltb hi lo) (refuses (number IntervalOutside)) passes (refuses (number IntervalOutside)) e (λ q. let z : _≡_ {A = ℕ} 0 1 = cc in absurd (omega arith)) in
+    ap not
+    (is-false (isRange lo hi) (λ r.
+    let b = range-bounds lo hi r in
+    let t : ltb lo 6 || ltb hi lo ≡ false = rw (le-ltb lo 6 (interval-bounds lo (b .0) .0), le-ltb hi lo (b .2)) refl in
+    false≢true (sym t ∙ o)))
+
+-- Where both pass, they are.
+pub smallest-told : (lo hi : ℕ) → isInterval hi ≡ true → passes ≡ smallestStep lo hi → intervalOutside lo hi ≡ false
+unfolding smallestStep
+smallest-told lo hi h e =
+    let o = tells (ltb lo 6 || ltb hi lo) (refuses (number IntervalOutside)) passes passes e (λ q. let z : _≡_ {A = ℕ} 0 1 = cc in absurd (omega arith)) .0 in
+    let p = neither (ltb lo 6) (ltb hi lo) o in
+    ap not (range-is lo hi (ltb-false lo 6 (p .0)) (ltb-false hi lo (p .1)) (interval-bounds hi h .1))
+
+pub range-missed : (lo hi : ℕ) → isInterval hi ≡ true → refuses (number NoInterval) ≡ rangeStep lo (2 ^ kOf hi) → kIn lo hi ≡ none
+unfolding rangeStep
+range-missed lo hi h e =
+    k-missed lo hi h
+    (ltb-true (6 * 2 ^ kOf hi) lo
+    (told (ltb (6 * 2 ^ kOf hi) lo) (refuses (number NoInterval)) passes (refuses (number NoInterval)) e (λ q. let z : _≡_ {A = ℕ} 0 1 = cc in absurd (omega arith))))
+
+pub range-told : (lo hi : ℕ) → isInterval hi ≡ true → passes ≡ rangeStep lo (2 ^ kOf hi) → kIn lo hi ≡ some (kOf hi)
+unfolding rangeStep
+range-told lo hi h e =
+    k-held lo hi h
+    (ltb-false (6 * 2 ^ kOf hi) lo
+    (tells (ltb (6 * 2 ^ kOf hi) lo) (refuses (number NoInterval)) passes passes e (λ q. let z : _≡_ {A = ℕ} 0 1 = cc in absurd (omega arith)) .0))
 
 pub share-told : (f c F : ℕ) → passes ≡ shareStep f c F → shareWrong f c F ≡ false
 unfolding shareStep
@@ -89,26 +148,31 @@ nowhere-told f k n e = go (firstOpen f k n) refl e
     go (some p) q e = let z : _≡_ {A = ℕ} 0 1 = cc in absurd (omega arith)
 
 -- ---- the whole plan, by each exit
-module _ (f : ℕ → Bool) (i floor ceiling : ℕ) where
-  pub plan-2 : (live : Bool) → live ≡ true → refuses (number HandleLive) ≡ planStep live f i floor ceiling
+module _ (f : ℕ → Bool) (lo hi floor ceiling : ℕ) where
+  pub plan-2 : (live : Bool) → live ≡ true → refuses (number HandleLive) ≡ planStep live f lo hi floor ceiling
   unfolding planStep
   plan-2 live e = rw e
 
   module _ (live : Bool) (l : live ≡ false) where
-    pub plan-4 : intervalOutside i ≡ true → refuses (number IntervalOutside) ≡ planStep live f i floor ceiling
+    pub plan-4 : intervalOutside lo hi ≡ true → refuses (number IntervalOutside) ≡ planStep live f lo hi floor ceiling
     unfolding planStep
     plan-4 e = rw (l, e)
 
-    module _ (k : ℕ) (o : intervalOutside i ≡ false) (e : k ≡ kOf i) where
-      pub plan-5 : shareWrong floor ceiling (2 ^ k) ≡ true → refuses (number ShareWrong) ≡ planStep live f i floor ceiling
+    module _ (o : intervalOutside lo hi ≡ false) where
+      pub plan-15 : kIn lo hi ≡ none → refuses (number NoInterval) ≡ planStep live f lo hi floor ceiling
       unfolding planStep
-      plan-5 w = rw (l, o, ← e, w)
+      plan-15 e = rw (l, o, e)
 
-      module _ (w : shareWrong floor ceiling (2 ^ k) ≡ false) where
-        pub plan-6 : firstOpen f k floor ≡ none → refuses (number NoOpenAnchor) ≡ planStep live f i floor ceiling
+      module _ (k : ℕ) (e : kIn lo hi ≡ some k) where
+        pub plan-5 : shareWrong floor ceiling (2 ^ k) ≡ true → refuses (number ShareWrong) ≡ planStep live f lo hi floor ceiling
         unfolding planStep
-        plan-6 p = rw (l, o, ← e, w, p)
+        plan-5 w = rw (l, o, e, w)
 
-        pub plan-ok : (p A : ℕ) → firstOpen f k floor ≡ some p → A ≡ mirrored k p → places k A ≡ planStep live f i floor ceiling
-        unfolding planStep
-        plan-ok p A q a = rw (l, o, ← e, w, q, a)
+        module _ (w : shareWrong floor ceiling (2 ^ k) ≡ false) where
+          pub plan-6 : firstOpen f k floor ≡ none → refuses (number NoOpenAnchor) ≡ planStep live f lo hi floor ceiling
+          unfolding planStep
+          plan-6 p = rw (l, o, e, w, p)
+
+          pub plan-ok : (p A : ℕ) → firstOpen f k floor ≡ some p → A ≡ mirrored k p → places k A ≡ planStep live f lo hi floor ceiling
+          unfolding planStep
+          plan-ok p A q a = rw (l, o, e, w, q, a)

@@ -52,5 +52,5 @@ Searches k floor room r = (taken : ℕ → Bool) → Stretches k taken room → 
 abbrev pub FindsFirst : ℕ → ℕ → List ℕ → Place → Type 0
 FindsFirst k floor tree r = ByTree tree (ofPlace r) (λ taken. placeStep taken k floor)
 
-abbrev pub Plans : Bool → ℕ → ℕ → ℕ → List ℕ → Plan → Type 0
-Plans live slots floor ceiling tree r = ByTree tree (ofPlan r) (λ taken. planStep live taken slots floor ceiling)
+abbrev pub Plans : Bool → ℕ → ℕ → ℕ → ℕ → List ℕ → Plan → Type 0
+Plans live smallest largest floor ceiling tree r = ByTree tree (ofPlan r) (λ taken. planStep live taken smallest largest floor ceiling)

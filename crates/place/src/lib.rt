@@ -1,27 +1,31 @@
-//! Where an admission goes: checks 2, 4, 5, 6, and the search for the first open anchor.
+//! Where an admission goes: checks 2, 4, 15, 5, 6, and the search for the first open anchor.
 ghost use mathlib.Core.Path.{_≡_};
 ghost use Prim.Native.Nat.{_<_, _≤_, _^_};
 ghost use lib.ListN.{length};
 ghost use Rattle.rules.specs.Time.{listBlocks};
 ghost use Rattle.rules.specs.Classes.{depth};
-ghost use Rattle.place.specs.Steps.{ofInterval, ofShare, intervalStep, shareStep};
+ghost use Rattle.place.specs.Steps.{ofInterval, ofSmallest, ofRange, ofShare, intervalStep, smallestStep, rangeStep, shareStep};
 ghost use Rattle.tree.specs.Promises.{IsTree};
 ghost use Rattle.place.specs.Promises.{Anchors, Reads, MeasuresRoom, IsRoom, Searches, FindsFirst, Plans, Long};
+use rules::BLOCK_SLOTS;
 use rules::Interval;
+use rules::LEAST_INTERVAL;
 use rules::LIST_BLOCKS;
 use rules::Place;
 use rules::Plan;
+use rules::Range;
 use rules::Refusal;
 use rules::Share;
+use rules::Smallest;
 use rules::TREE_BYTES;
 use run::class_at;
 use run::factor;
 
-// The largest k with 6 × 2^k not above the interval.
-fn k_of(slots: u32) -> Interval
-    ensures { λ r. ⌜ ofInterval r ≡ intervalStep slots ⌝ }
+// The largest k with 6 × 2^k not above the largest interval.
+fn k_of(largest: u32) -> Interval
+    ensures { λ r. ⌜ ofInterval r ≡ intervalStep largest ⌝ }
 {
-    match slots {
+    match largest {
         6..=11 => Interval::Gives(0),
         12..=23 => Interval::Gives(1),
         24..=47 => Interval::Gives(2),
@@ -34,6 +38,30 @@ fn k_of(slots: u32) -> Interval
         3072..=3200 => Interval::Gives(9),
         _ => Interval::Outside,
     }
+}
+
+// The smallest interval is from the least that there is to the largest.
+fn smallest_of(smallest: u32, largest: u32) -> Smallest
+    ensures { λ r. ⌜ ofSmallest r ≡ smallestStep smallest largest ⌝ }
+{
+    if smallest < LEAST_INTERVAL {
+        return Smallest::Outside;
+    }
+    if largest < smallest {
+        return Smallest::Outside;
+    }
+    Smallest::Within
+}
+
+// Where the longest interval up to the largest is below the smallest, none is in the range.
+fn range_of(smallest: u32, f: u32) -> Range
+    requires { ⌜ f ≤ listBlocks ⌝ }
+    ensures { λ r. ⌜ ofRange r ≡ rangeStep smallest f ⌝ }
+{
+    if BLOCK_SLOTS * f < smallest {
+        return Range::Misses;
+    }
+    Range::Holds
 }
 
 fn share_of(floor: u32, ceiling: u32, f: u32) -> Share
@@ -133,17 +161,31 @@ fn first_open(tree: &[u8; TREE_BYTES], k: u32, floor: u32) -> Place
 }
 
 /// Where an admission goes, or the number of the first check from 2 on that refuses.
-pub fn plan(tree: &[u8; TREE_BYTES], live: bool, slots: u32, floor: u32, ceiling: u32) -> Plan
+pub fn plan(
+    tree: &[u8; TREE_BYTES],
+    live: bool,
+    smallest: u32,
+    largest: u32,
+    floor: u32,
+    ceiling: u32,
+) -> Plan
     requires { ⌜ IsTree (now tree) ⌝ }
-    ensures { λ r. ⌜ Plans live slots floor ceiling (now (tree .entry)) r ⌝ }
+    ensures { λ r. ⌜ Plans live smallest largest floor ceiling (now (tree .entry)) r ⌝ }
 {
     if live {
         return Plan::Refused(Refusal::HandleLive);
     }
-    let Interval::Gives(k) = k_of(slots) else {
+    let Interval::Gives(k) = k_of(largest) else {
         return Plan::Refused(Refusal::IntervalOutside);
     };
-    let Share::Fits = share_of(floor, ceiling, factor(k as u32)) else {
+    let Smallest::Within = smallest_of(smallest, largest) else {
+        return Plan::Refused(Refusal::IntervalOutside);
+    };
+    let f = factor(k as u32);
+    let Range::Holds = range_of(smallest, f) else {
+        return Plan::Refused(Refusal::NoInterval);
+    };
+    let Share::Fits = share_of(floor, ceiling, f) else {
         return Plan::Refused(Refusal::ShareWrong);
     };
     let Place::At(anchor) = first_open(tree, k as u32, floor) else {

@@ -19,8 +19,8 @@ use Rattle.calls.proofs.CallLaws.{Leaves, refusal-keeps-schedule}
 use Rattle.schedule.specs.Promises.{Admits, Drops, Reports}
 
 -- ---- two outcomes that meet a call's statement are equal
-pub admit-unique : (s : Schedule) (h i f c : ℕ) (a b : Admitted) → Admits s h i f c a → Admits s h i f c b → a ≡ b
-admit-unique s h i f c a b p q = admitted-injective a b (p .is ∙ sym (q .is))
+pub admit-unique : (s : Schedule) (h lo hi f c : ℕ) (a b : Admitted) → Admits s h lo hi f c a → Admits s h lo hi f c b → a ≡ b
+admit-unique s h lo hi f c a b p q = admitted-injective a b (p .is ∙ sym (q .is))
 
 pub drop-unique : (s : Schedule) (h : ℕ) (a b : Dropped) → Drops s h a → Drops s h b → a ≡ b
 drop-unique s h a b p q = dropped-injective a b (p .is ∙ sym (q .is))
@@ -36,9 +36,9 @@ module _ (o rule : Outcome) (is : o ≡ rule) where
 
 module _ (s : Schedule) (good : Good s) (h : ℕ) where
   -- A refused call leaves the schedule as it was.
-  pub admit-refusal : (i f c : ℕ) (r : Admitted) → Admits s h i f c r → (n : ℕ) → ofAdmitted r .answer ≡ refused n → r .schedule ≡ s
-  admit-refusal i f c r p n e =
-      there (ofAdmitted r) _ (p .is) (λ t. t ≡ s) (refusal-keeps-schedule s (Leaves.admits h i f c) n (ap (λ (o : Outcome). o .answer) (sym (p .is)) ∙ e))
+  pub admit-refusal : (lo hi f c : ℕ) (r : Admitted) → Admits s h lo hi f c r → (n : ℕ) → ofAdmitted r .answer ≡ refused n → r .schedule ≡ s
+  admit-refusal lo hi f c r p n e =
+      there (ofAdmitted r) _ (p .is) (λ t. t ≡ s) (refusal-keeps-schedule s (Leaves.admits h lo hi f c) n (ap (λ (o : Outcome). o .answer) (sym (p .is)) ∙ e))
 
   pub drop-refusal : (r : Dropped) → Drops s h r → (n : ℕ) → ofDropped r .answer ≡ refused n → r .schedule ≡ s
   drop-refusal r p n e =
@@ -49,8 +49,8 @@ module _ (s : Schedule) (good : Good s) (h : ℕ) where
       there (ofReported r) _ (p .is) (λ t. t ≡ s) (refusal-keeps-schedule s (Leaves.reports h sample) n (ap (λ (o : Outcome). o .answer) (sym (p .is)) ∙ e))
 
   -- Every other connection is as it was, and so is whether it is live.
-  pub admit-keeps : (i f c : ℕ) (r : Admitted) → Admits s h i f c r → (j : ℕ) → j ≢ h → connection (r .schedule) j ≡ connection s j
-  admit-keeps i f c r p j n = there (ofAdmitted r) _ (p .is) (λ t. connection t j ≡ connection s j) (admit-others s good h i f c j n)
+  pub admit-keeps : (lo hi f c : ℕ) (r : Admitted) → Admits s h lo hi f c r → (j : ℕ) → j ≢ h → connection (r .schedule) j ≡ connection s j
+  admit-keeps lo hi f c r p j n = there (ofAdmitted r) _ (p .is) (λ t. connection t j ≡ connection s j) (admit-others s good h lo hi f c j n)
 
   pub drop-keeps : (r : Dropped) → Drops s h r → (j : ℕ) → j ≢ h → connection (r .schedule) j ≡ connection s j
   drop-keeps r p j n = there (ofDropped r) _ (p .is) (λ t. connection t j ≡ connection s j) (drop-others s good h j n)
@@ -59,9 +59,9 @@ module _ (s : Schedule) (good : Good s) (h : ℕ) where
   report-keeps sample r p j n = there (ofReported r) _ (p .is) (λ t. connection t j ≡ connection s j) (report-others s good h sample j n)
 
   -- Which handles are live afterwards: an accepted admission begins its own, an accepted drop ends its own, a report neither.
-  pub admit-begins : (i f c : ℕ) (r : Admitted) → Admits s h i f c r → (F A L : ℕ) → ofAdmitted r .answer ≡ ok F A L → isLive (r .schedule) h ≡ true
-  admit-begins i f c r p F A L e =
-      there (ofAdmitted r) _ (p .is) (λ t. isLive t h ≡ true) (admit-lives s good h i f c F A L (ap (λ (o : Outcome). o .answer) (sym (p .is)) ∙ e))
+  pub admit-begins : (lo hi f c : ℕ) (r : Admitted) → Admits s h lo hi f c r → (F A L : ℕ) → ofAdmitted r .answer ≡ ok F A L → isLive (r .schedule) h ≡ true
+  admit-begins lo hi f c r p F A L e =
+      there (ofAdmitted r) _ (p .is) (λ t. isLive t h ≡ true) (admit-lives s good h lo hi f c F A L (ap (λ (o : Outcome). o .answer) (sym (p .is)) ∙ e))
 
   pub drop-ends-own : (r : Dropped) → Drops s h r → ofDropped r .answer ≡ dropped → isLive (r .schedule) h ≡ false
   drop-ends-own r p e = there (ofDropped r) _ (p .is) (λ t. isLive t h ≡ false) (drop-lives s good h (ap (λ (o : Outcome). o .answer) (sym (p .is)) ∙ e))

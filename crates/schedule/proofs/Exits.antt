@@ -50,29 +50,29 @@ pub treed : (s : Schedule) → Good s → IsTree (s .tree .bytes)
 treed s good = (taken (s .connections), good-tree s good)
 
 -- ---- admit
-module _ (s : Schedule) (good : Good s) (h i f c : ℕ) where
-  pub admits : (r : Admitted) → ofAdmitted r ≡ admit s h i f c → Admits s h i f c r
-  admits r e = record { is = e; good = subst Good (sym (ap (λ (o : Outcome). o .schedule) e)) (admit-good s good h i f c) }
+module _ (s : Schedule) (good : Good s) (h lo hi f c : ℕ) where
+  pub admits : (r : Admitted) → ofAdmitted r ≡ admit s h lo hi f c → Admits s h lo hi f c r
+  admits r e = record { is = e; good = subst Good (sym (ap (λ (o : Outcome). o .schedule) e)) (admit-good s good h lo hi f c) }
 
   -- What the plan says is what the rule says.
-  pub plan-says : (r : Plan) → Plans (isLive s h) i f c (s .tree .bytes) r → planStep (isLive s h) (taken (s .connections)) i f c ≡ ofPlan r
+  pub plan-says : (r : Plan) → Plans (isLive s h) lo hi f c (s .tree .bytes) r → planStep (isLive s h) (taken (s .connections)) lo hi f c ≡ ofPlan r
   plan-says r p = sym (p (taken (s .connections)) (good-tree s good))
 
   module _ (b : h ≤ 63) where
-    pub admit-refused : (n : ℕ) → planStep (isLive s h) (taken (s .connections)) i f c ≡ refuses n → refusing s n ≡ admit s h i f c
-    admit-refused n e = sym (admit-plan s h i f c b ∙ ap (carry s h f c) e)
+    pub admit-refused : (n : ℕ) → planStep (isLive s h) (taken (s .connections)) lo hi f c ≡ refuses n → refusing s n ≡ admit s h lo hi f c
+    admit-refused n e = sym (admit-plan s h lo hi f c b ∙ ap (carry s h f c) e)
 
     pub admit-made : (k A F : ℕ) (new : Connection) (bytes : List ℕ)
-        → planStep (isLive s h) (taken (s .connections)) i f c ≡ places k A → isLive s h ≡ false → F ≡ 2 ^ k
+        → planStep (isLive s h) (taken (s .connections)) lo hi f c ≡ places k A → isLive s h ≡ false → F ≡ 2 ^ k
         → new ≡ newConnection k A f c → SetsRun k A 0 f true (s .tree .bytes) bytes
-        → _≡_ {A = Outcome} (record { answer = ok F A f; schedule = record { connections = set (s .connections) h new; tree = record { bytes = bytes } } }) (admit s h i f c)
+        → _≡_ {A = Outcome} (record { answer = ok F A f; schedule = record { connections = set (s .connections) h new; tree = record { bytes = bytes } } }) (admit s h lo hi f c)
     admit-made k A F new bytes e d w n r =
         let t : bytes ≡ treeFor (set (s .connections) h new) =
         r (taken (s .connections)) (good-tree s good)
         ∙ longer-tree (s .connections) h k A 0 f (inside s good h b) (dead-runs k A (connection s h) d) new (rw n (live-runs (newConnection k A f c) refl)) (omega arith) in
         ap₂ (λ (G : ℕ) (x : Schedule). record { answer = ok G A f; schedule = x }) w (scheduled s (set (s .connections) h new) bytes t)
         ∙ ap (λ (x : Connection). record { answer = ok (2 ^ k) A f; schedule = withConnection s h x }) n
-        ∙ sym (admit-plan s h i f c b ∙ ap (carry s h f c) e)
+        ∙ sym (admit-plan s h lo hi f c b ∙ ap (carry s h f c) e)
 
 -- ---- drop
 -- A run that settles to no block is given back as a whole.

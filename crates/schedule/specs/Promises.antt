@@ -45,8 +45,8 @@ pub record Settles (c : Connection) (aim : ℕ) (before after : List ℕ) (r : R
 -- ---- the calls
 -- Each call: the whole result, by the sheet's answer and the schedule afterwards, is what the rule gives for the inputs;
 -- and the schedule is good again.
-pub record Admits (s : Schedule) (handle interval floor ceiling : ℕ) (r : Admitted) : Type 0 where
-  pub is : ofAdmitted r ≡ admit s handle interval floor ceiling
+pub record Admits (s : Schedule) (handle smallest largest floor ceiling : ℕ) (r : Admitted) : Type 0 where
+  pub is : ofAdmitted r ≡ admit s handle smallest largest floor ceiling
   pub good : Good (r .schedule)
 
 pub record Drops (s : Schedule) (handle : ℕ) (r : Dropped) : Type 0 where

@@ -1,4 +1,4 @@
-//! Admit: checks 1, 2, 4, 5, 6.
+//! Admit: checks 1, 2, 4, 15, 5, 6.
 ghost use mathlib.Core.Path.{_≡_};
 ghost use Prim.Native.Nat.{_≤_};
 ghost use Rattle.rules.specs.Time.{listBlocks};
@@ -34,16 +34,23 @@ fn new_connection(k: u8, anchor: u32, floor: u16, ceiling: u16) -> Connection
     }
 }
 
-/// Admits a connection: handle, interval in slots, floor and ceiling in blocks.
-pub fn admit(mut s: Schedule, handle: u32, interval: u32, floor: u32, ceiling: u32) -> Admitted
+/// Admits a connection: handle, smallest and largest interval in slots, floor and ceiling in blocks.
+pub fn admit(
+    mut s: Schedule,
+    handle: u32,
+    smallest: u32,
+    largest: u32,
+    floor: u32,
+    ceiling: u32,
+) -> Admitted
     requires { ⌜ Good s ⌝ }
-    ensures { λ r. ⌜ Admits s handle interval floor ceiling r ⌝ }
+    ensures { λ r. ⌜ Admits s handle smallest largest floor ceiling r ⌝ }
 {
     let mut answer = Admission::Refused(Refusal::HandleAbove63);
     if handle <= LAST_HANDLE {
         let h = handle as usize;
         let old = s.connections[h];
-        match plan(&s.tree.bytes, old.live, interval, floor, ceiling) {
+        match plan(&s.tree.bytes, old.live, smallest, largest, floor, ceiling) {
             Plan::Refused(r) => {
                 answer = Admission::Refused(r);
             }

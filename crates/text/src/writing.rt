@@ -72,6 +72,7 @@ pub fn refusal_number(r: Refusal) -> u32
         Refusal::TreeDiffers => 12,
         Refusal::ReportsMany => 13,
         Refusal::ListShort => 14,
+        Refusal::NoInterval => 15,
     }
 }
 

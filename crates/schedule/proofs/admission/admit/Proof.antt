@@ -16,13 +16,13 @@ use Rattle.schedule.proofs.admission.admit.Tie as tie
 use Rattle.blocks.proofs.ClassLaws.{within-depth}
 
 -- where the plan goes, and the bounds that it tells
-placed : (c : tie.After-k) → planStep (isLive (c .before .before .before .before .before .before .before .args .t1) (c .before .before .before .before .before .before .before .args .handle)) (taken (c .before .before .before .before .before .before .before .args .t1 .connections)) (c .before .before .before .before .before .before .before .args .interval) (c .before .before .before .before .before .before .before .args .floor) (c .before .before .before .before .before .before .before .args .ceiling) ≡ places (c .k .given .0 .0) (c .k .given .0 .1 .0)
+placed : (c : tie.After-k) → planStep (isLive (c .before .before .before .before .before .before .before .args .t1) (c .before .before .before .before .before .before .before .args .handle)) (taken (c .before .before .before .before .before .before .before .args .t1 .connections)) (c .before .before .before .before .before .before .before .args .smallest) (c .before .before .before .before .before .before .before .args .largest) (c .before .before .before .before .before .before .before .args .floor) (c .before .before .before .before .before .before .before .args .ceiling) ≡ places (c .k .given .0 .0) (c .k .given .0 .1 .0)
 placed c =
     let a = c .before .before .before .before .before .before .before in
-    plan-says (a .args .t1) (a .pre) _ _ _ _ (c .before .before .plan .result) (c .before .before .plan .ensures) ∙ ap ofPlan (c .k .given .1)
+    plan-says (a .args .t1) (a .pre) _ _ _ _ _ (c .before .before .plan .result) (c .before .before .plan .ensures) ∙ ap ofPlan (c .k .given .1)
 
 bounds : (c : tie.After-k) → Planned (c .k .given .0 .0) (c .k .given .0 .1 .0) (c .before .before .before .before .before .before .before .args .floor) (c .before .before .before .before .before .before .before .args .ceiling)
-bounds c = planned _ _ _ _ _ _ _ (placed c)
+bounds c = planned _ _ _ _ _ _ _ _ (placed c)
 
 small : (c : tie.After-k) → 2 ^ c .k .given .0 .0 ≤ 512
 small c = pow-mono (within-depth (bounds c .deep))
@@ -79,32 +79,32 @@ cast-factor c = search needs
 factor-requires : tie.Need-factor-requires
 factor-requires c κs = within-depth (bounds (c .before .before .before .before) .deep)
 
-cast-t24 : tie.Need-cast-t24
-cast-t24 c = search needs
+cast-t25 : tie.Need-cast-t25
+cast-t25 c = search needs
 
-cast-t23 : tie.Need-cast-t23
-cast-t23 c = omega (arith, bounds (c .before .before .before .before .before), small (c .before .before .before .before .before))
+cast-t24 : tie.Need-cast-t24
+cast-t24 c = omega (arith, bounds (c .before .before .before .before .before), small (c .before .before .before .before .before))
 
 returns : tie.Need-returns
 returns c =
     let r = c .before in
     let a = r .before .before .before .before .before .before .before in
-    admits (a .args .t1) (a .pre) _ _ _ _ _
-    (admit-refused (a .args .t1) (a .pre) _ _ _ _ (r .before .before .before .before .before .before .if1 .taken) _
-    (plan-says (a .args .t1) (a .pre) _ _ _ _ (r .before .before .plan .result) (r .before .before .plan .ensures) ∙ ap ofPlan (r .r .given .1)))
+    admits (a .args .t1) (a .pre) _ _ _ _ _ _
+    (admit-refused (a .args .t1) (a .pre) _ _ _ _ _ (r .before .before .before .before .before .before .if1 .taken) _
+    (plan-says (a .args .t1) (a .pre) _ _ _ _ _ (r .before .before .plan .result) (r .before .before .plan .ensures) ∙ ap ofPlan (r .r .given .1)))
 
 returns-2 : tie.Need-returns-2
 returns-2 c =
     let k = c .before .before .before .before .before in
     let a = k .before .before .before .before .before .before .before in
-    admits (a .args .t1) (a .pre) _ _ _ _ _
-    (admit-made (a .args .t1) (a .pre) _ _ _ _ (k .before .before .before .before .before .before .if1 .taken) _ _ _ _ _ (placed k)
-    (planned-free _ _ _ _ _ _ _ (placed k)) (c .factor .ensures .is) (c .before .before .before .new-connection .ensures) (c .before .set-run .ensures))
+    admits (a .args .t1) (a .pre) _ _ _ _ _ _
+    (admit-made (a .args .t1) (a .pre) _ _ _ _ _ (k .before .before .before .before .before .before .if1 .taken) _ _ _ _ _ (placed k)
+    (planned-free _ _ _ _ _ _ _ _ (placed k)) (c .factor .ensures .is) (c .before .before .before .new-connection .ensures) (c .before .set-run .ensures))
 
 returns-3 : tie.Need-returns-3
 returns-3 c =
     let a = c .before in
-    admits (a .args .t1) (a .pre) _ _ _ _ _ (sym (admit-1 (a .args .t1) _ _ _ _ (c .if1 .left)))
+    admits (a .args .t1) (a .pre) _ _ _ _ _ _ (sym (admit-1 (a .args .t1) _ _ _ _ _ (c .if1 .left)))
 
 pub admit-spec : {M : Type 1} → statement M
 admit-spec =
@@ -126,8 +126,8 @@ admit-spec =
     element-set-from-c
     cast-factor
     factor-requires
+    cast-t25
     cast-t24
-    cast-t23
     returns
     returns-2
     returns-3)
