@@ -5,11 +5,12 @@ use Prim.Native.Nat.{ℕ, _-_, _≤_}
 use native.Mathlib.Omega.{arith}
 use lib.ListN.{length, replicate, length-append}
 use Rattle.rules.specs.declared.Schedule.{Schedule}
+use Rattle.rules.specs.declared.Admission.{Admission}
 use Rattle.rules.specs.declared.Admitted.{Admitted}
 use Rattle.rules.specs.declared.Dropped.{Dropped}
 use Rattle.rules.specs.declared.Reported.{Reported}
 use Rattle.rules.specs.declared.Command.{Command}
-use Rattle.rules.specs.declared.Command.the-variants.{Admit, Drop, Report, Owner, Anchor}
+use Rattle.rules.specs.declared.Command.the-variants.{Admit, AdmitRange, Drop, Report, Owner, Anchor}
 use Rattle.rules.specs.declared.Reply.{Reply}
 use Rattle.rules.specs.declared.Reply.the-variants.{Admission as ReplyAdmission, Dropping as ReplyDropping, Reporting as ReplyReporting, Ownership as ReplyOwnership, Distance as ReplyDistance}
 use Rattle.rules.specs.declared.Obeyed.{Obeyed}
@@ -41,9 +42,13 @@ module _ (r q : Obeyed) (e : ofObeyed r ≡ ofObeyed q) where
       let same : r .reply ≡ q .reply = f .1 ∙ ap kind (back (f .0) (g .0) (λ i. record { answer = a i; schedule = e i .schedule })) ∙ sym (g .1) in
       λ i. record { reply = same i; schedule = e i .schedule }
 
-  kind-unique : (c : Command) → OwnKind c (r .reply) → OwnKind c (q .reply) → r ≡ q
-  kind-unique (Admit handle interval floor ceiling) =
+  admission-unique : (a : Admission) × (r .reply ≡ ReplyAdmission a) → (b : Admission) × (q .reply ≡ ReplyAdmission b) → r ≡ q
+  admission-unique =
       of-kind ReplyAdmission (λ a b w. ap (λ (x : Admitted). x .answer) (admitted-injective (record { answer = a; schedule = r .schedule }) (record { answer = b; schedule = q .schedule }) w))
+
+  kind-unique : (c : Command) → OwnKind c (r .reply) → OwnKind c (q .reply) → r ≡ q
+  kind-unique (Admit handle interval floor ceiling) = admission-unique
+  kind-unique (AdmitRange handle smallest largest floor ceiling) = admission-unique
   kind-unique (Drop handle) =
       of-kind ReplyDropping (λ a b w. ap (λ (x : Dropped). x .answer) (dropped-injective (record { answer = a; schedule = r .schedule }) (record { answer = b; schedule = q .schedule }) w))
   kind-unique (Report handle sample) =

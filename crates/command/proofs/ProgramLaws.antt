@@ -7,12 +7,12 @@ use lib.ListN.{length}
 use borrow.Author.Tests.{lt-ltb, le-ltb}
 use Rattle.rules.specs.declared.Schedule.{Schedule}
 use Rattle.rules.specs.declared.Command.{Command}
-use Rattle.rules.specs.declared.Command.the-variants.{Admit, Drop, Report, Owner, Anchor}
+use Rattle.rules.specs.declared.Command.the-variants.{Admit, AdmitRange, Drop, Report, Owner, Anchor}
 use Rattle.rules.specs.declared.Line.{Line}
 use Rattle.rules.specs.declared.Line.the-variants.{Says, Bad}
 use Rattle.rules.specs.Good.{Good, fresh}
 use Rattle.rules.specs.Answers.{Answer, refused, ok, dropped, kept, grown, shrunk, tight, owner, idle, slots, saved, loaded, reported}
-use Rattle.rules.specs.Obey.{obey}
+use Rattle.rules.specs.Obey.{singleFrom, obey}
 use Rattle.rules.specs.Text.{byte, text}
 use Rattle.rules.specs.Decimal.{decimal}
 use Rattle.rules.specs.Split.{parted, before}
@@ -61,7 +61,8 @@ carried-out-bad s line e = ap (carriedOut s) e
 -- A command leaves a good schedule,
 pub obey-good : (s : Schedule) (c : Command) → Good s → Good (obey s c .schedule)
 unfolding obey
-obey-good s (Admit handle interval floor ceiling) good = call-good s good (admits handle interval floor ceiling)
+obey-good s (Admit handle interval floor ceiling) good = call-good s good (admits handle singleFrom interval floor ceiling)
+obey-good s (AdmitRange handle smallest largest floor ceiling) good = call-good s good (admits handle smallest largest floor ceiling)
 obey-good s (Drop handle) good = call-good s good (drops handle)
 obey-good s (Report handle sample) good = call-good s good (reports handle sample)
 obey-good s (Owner block) good = good
@@ -75,7 +76,8 @@ carried-out-good s (Says c) good = obey-good s c good
 -- and with a refusal the same schedule.
 pub obey-refused : (s : Schedule) (c : Command) (n : ℕ) → obey s c .answer ≡ refused n → obey s c .schedule ≡ s
 unfolding obey
-obey-refused s (Admit handle interval floor ceiling) n e = refusal-keeps-schedule s (admits handle interval floor ceiling) n e
+obey-refused s (Admit handle interval floor ceiling) n e = refusal-keeps-schedule s (admits handle singleFrom interval floor ceiling) n e
+obey-refused s (AdmitRange handle smallest largest floor ceiling) n e = refusal-keeps-schedule s (admits handle smallest largest floor ceiling) n e
 obey-refused s (Drop handle) n e = refusal-keeps-schedule s (drops handle) n e
 obey-refused s (Report handle sample) n e = refusal-keeps-schedule s (reports handle sample) n e
 obey-refused s (Owner block) n e = refl

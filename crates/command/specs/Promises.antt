@@ -12,7 +12,7 @@ use Rattle.rules.specs.declared.Distance.{Distance}
 use Rattle.rules.specs.declared.Reply.{Reply}
 use Rattle.rules.specs.declared.Reply.the-variants.{Admission as ReplyAdmission, Dropping as ReplyDropping, Reporting as ReplyReporting, Ownership as ReplyOwnership, Distance as ReplyDistance}
 use Rattle.rules.specs.declared.Command.{Command}
-use Rattle.rules.specs.declared.Command.the-variants.{Admit, Drop, Report, Owner, Anchor}
+use Rattle.rules.specs.declared.Command.the-variants.{Admit, AdmitRange, Drop, Report, Owner, Anchor}
 use Rattle.rules.specs.declared.Obeyed.{Obeyed}
 use Rattle.rules.specs.Good.{Good}
 use Rattle.rules.specs.Answers.{ofObeyed}
@@ -27,6 +27,7 @@ use Rattle.command.specs.declared.Output.{Output}
 -- The reply is of the command's own kind.
 abbrev pub OwnKind : Command → Reply → Type 0
 OwnKind (Admit handle interval floor ceiling) r = (a : Admission) × (r ≡ ReplyAdmission a)
+OwnKind (AdmitRange handle smallest largest floor ceiling) r = (a : Admission) × (r ≡ ReplyAdmission a)
 OwnKind (Drop handle) r = (a : Dropping) × (r ≡ ReplyDropping a)
 OwnKind (Report handle sample) r = (a : Reporting) × (r ≡ ReplyReporting a)
 OwnKind (Owner block) r = (a : Ownership) × (r ≡ ReplyOwnership a)

@@ -9,7 +9,7 @@ use text::is_word;
 use text::read_row;
 
 // As many as the longest form has: mostNumbers.
-const MOST_NUMBERS: usize = 4;
+const MOST_NUMBERS: usize = 5;
 
 // Whether a word and its numbers have a form: its word, and so many numbers.
 fn is_form(word: &[u8], numbers: &[u32], form: &[u8], count: usize) -> bool
@@ -31,6 +31,15 @@ fn named(word: &[u8], n: &[u32]) -> Line
             interval: n[1],
             floor: n[2],
             ceiling: n[3],
+        });
+    }
+    if is_form(word, n, b"admit", 5) {
+        return Line::Says(Command::AdmitRange {
+            handle: n[0],
+            smallest: n[1],
+            largest: n[2],
+            floor: n[3],
+            ceiling: n[4],
         });
     }
     if is_form(word, n, b"drop", 1) {

@@ -9,7 +9,7 @@ use lib.ListN.{length, getD, take, drop, length-take, take-append-drop}
 use lib.Seq.{length-take-le}
 use borrow.Author.Tests.{lt-ltb, le-leb, leb-true}
 use Rattle.rules.specs.declared.Command.{Command}
-use Rattle.rules.specs.declared.Command.the-variants.{Admit, Drop, Report, Owner, Anchor}
+use Rattle.rules.specs.declared.Command.the-variants.{Admit, AdmitRange, Drop, Report, Owner, Anchor}
 use Rattle.rules.specs.declared.Line.the-variants.{Says, Bad as SaysBad}
 use Rattle.rules.specs.Bytes.{same}
 use Rattle.rules.specs.Text.{text}
@@ -49,6 +49,7 @@ other-of o i j f g = other {o = o} (apart i f) (apart j g)
 opened-order : (o : Order) → Proper o → Opened o
 unfolding orderLine lineOf
 opened-order (command (Admit h i f c)) p = other-of (command (Admit h i f c)) 0 0 (λ e. omega (arith, e)) (λ e. omega (arith, e))
+opened-order (command (AdmitRange h s l f c)) p = other-of (command (AdmitRange h s l f c)) 0 0 (λ e. omega (arith, e)) (λ e. omega (arith, e))
 opened-order (command (Drop h)) p = other-of (command (Drop h)) 0 0 (λ e. omega (arith, e)) (λ e. omega (arith, e))
 opened-order (command (Report h s)) p = other-of (command (Report h s)) 0 0 (λ e. omega (arith, e)) (λ e. omega (arith, e))
 opened-order (command (Owner b)) p = other-of (command (Owner b)) 0 0 (λ e. omega (arith, e)) (λ e. omega (arith, e))

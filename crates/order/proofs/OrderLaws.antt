@@ -4,7 +4,7 @@ use mathlib.Core.Bool.{Bool, true, false, _&&_, cond}
 use mathlib.Core.List.{List, [], _∷_, append-nil}
 use Prim.Native.Nat.{ℕ}
 use lib.ListN.{take, drop}
-use Rattle.rules.specs.declared.Command.the-variants.{Admit, Drop, Report, Owner, Anchor}
+use Rattle.rules.specs.declared.Command.the-variants.{Admit, AdmitRange, Drop, Report, Owner, Anchor}
 use Rattle.rules.specs.Bytes.{same}
 use Rattle.rules.specs.Text.{text}
 use Rattle.rules.specs.Decimal.{decimal, value}
@@ -33,6 +33,7 @@ Proper (load bytes) = Unit {0}
 ordered-line : (o : Order) → Proper o → ordered (orderLine o) ≡ o
 unfolding ordered orderLine lineOf spaced same hex
 ordered-line (command (Admit h i f c)) p = ap ofLine (guess-line (Admit h i f c))
+ordered-line (command (AdmitRange h s l f c)) p = ap ofLine (guess-line (AdmitRange h s l f c))
 ordered-line (command (Drop h)) p = ap ofLine (guess-line (Drop h))
 ordered-line (command (Report h s)) p = ap ofLine (guess-line (Report h s))
 ordered-line (command (Owner b)) p = ap ofLine (guess-line (Owner b))
