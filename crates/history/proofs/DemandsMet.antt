@@ -40,12 +40,12 @@ module _ (S T : System) (among : (run : Run) → S run → T run) where
   demand2-among : Demand2 T → Demand2 S
   demand2-among d =
       record {
-        intervals = λ run m x i f c F A L s. d .intervals run m x i f c F A L (among (more run m) s);
+        intervals = λ run m x lo hi f c F A L s. d .intervals run m x lo hi f c F A L (among (more run m) s);
         events = λ run x b s. d .events run x b (among run s);
         results = λ run m s. d .results run m (among (more run m) s);
         connections = λ run x s. d .connections run x (among run s);
         tree = λ run s. d .tree run (among run s);
-        room = λ run m x i f c s. d .room run m x i f c (among (more run m) s);
+        room = λ run m x lo hi f c k s. d .room run m x lo hi f c k (among (more run m) s);
         restore = λ run m bytes s. d .restore run m bytes (among (more run m) s);
         saves = λ run m s. d .saves run m (among (more run m) s);
         same = λ run m bytes n s. d .same run m bytes n (among (more run m) s);

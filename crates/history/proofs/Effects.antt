@@ -13,7 +13,7 @@ use Rattle.rules.specs.Sound.{sound}
 use Rattle.rules.specs.Good.{Good, withConnections}
 use Rattle.rules.specs.Answers.{Outcome, refusing, dropped}
 use Rattle.rules.specs.Handles.{connection, isLive}
-use Rattle.rules.specs.Admit.{kOf, newConnection, anchorFor, admitDone, admit}
+use Rattle.rules.specs.Admit.{newConnection, anchorFor, admitDone, admit}
 use Rattle.rules.specs.Drop.{dropDone, dropHandle}
 use Rattle.rules.specs.Report.{metered, report}
 use Rattle.rules.specs.Reports.{reportAll}
@@ -32,7 +32,7 @@ use Rattle.history.specs.Moments.{AdmissionOf, DropOf, ReportOf, single,
 
 -- A call that neither begins nor ends x: no accepted admission or drop of x, and no accepted restore.
 pub record Quiet (m : Made) (x : ℕ) : Type 0 where
-  pub admits : (i f c : ℕ) → AdmissionOf (m .request .call) x i f c → Placed (m .result .answer) → ⊥
+  pub admits : (lo hi f c : ℕ) → AdmissionOf (m .request .call) x lo hi f c → Placed (m .result .answer) → ⊥
   pub drops : DropOf (m .request .call) x → m .result .answer ≡ dropped → ⊥
   pub restores : (bytes : Bytes) → Restores m bytes → ⊥
 
@@ -41,7 +41,7 @@ pub data Effect (s : Schedule) (m : Made) (x : ℕ) : Type 0 where
   kept : Quiet m x → connection (m .result .schedule) x ≡ connection s x → Effect s m x
   moved : Quiet m x → ReportOf (m .request .call) x → (L e : ℕ)
       → connection (m .result .schedule) x ≡ metered (connection s x) L e → Effect s m x
-  begun : (i f c k A : ℕ) → AdmissionOf (m .request .call) x i f c → Placed (m .result .answer)
+  begun : (lo hi f c k A : ℕ) → AdmissionOf (m .request .call) x lo hi f c → Placed (m .result .answer)
       → isLive s x ≡ false → connection (m .result .schedule) x ≡ newConnection k A f c → Effect s m x
   ended : DropOf (m .request .call) x → m .result .answer ≡ dropped → connection (m .result .schedule) x ≡ nobody → Effect s m x
   replaced : (bytes : Bytes) → Restores m bytes → length (m .result .schedule .connections) ≡ handles
@@ -49,7 +49,7 @@ pub data Effect (s : Schedule) (m : Made) (x : ℕ) : Type 0 where
 
 -- A call that can neither begin nor end x, whatever its answer.
 abbrev Other : ℕ → Call → Type 0
-Other x (Admit h i f c) = x ≢ h
+Other x (Admit h lo hi f c) = x ≢ h
 Other x (Drop h) = x ≢ h
 Other x (Report h sample) = Unit {0}
 Other x (Reports reports) = Unit {0}
@@ -62,7 +62,7 @@ Other x (Load bytes) = ⊥
 other : {m : Made} {x : ℕ} {call : Call} → m .request .call ≡ call → Other x call → Quiet m x
 other {x = x} p o =
     record {
-      admits = λ i f c q e. subst (Other x) (sym p ∙ q) o refl;
+      admits = λ lo hi f c q e. subst (Other x) (sym p ∙ q) o refl;
       drops = λ q e. subst (Other x) (sym p ∙ q) o refl;
       restores = λ bytes w. subst (Other x) (sym p ∙ w .0) o;
     }
@@ -81,22 +81,22 @@ module _ (s : Schedule) (good : Good s) (r : Request) (x : ℕ) where
   refusal n =
       kept
       (record {
-        admits = λ i f c p w. let e = w .3 in let z : _≡_ {A = ℕ} 0 1 = cc in omega arith;
+        admits = λ lo hi f c p w. let e = w .3 in let z : _≡_ {A = ℕ} 0 1 = cc in omega arith;
         drops = λ p e. let z : _≡_ {A = ℕ} 0 1 = cc in omega arith;
         restores = λ bytes w. let e = w .1 .1 in let z : _≡_ {A = ℕ} 0 1 = cc in omega arith;
       })
       refl
 
-  admission : (h i f c : ℕ) → r .call ≡ Admit h i f c → Leads (admit s h i f c)
+  admission : (h lo hi f c : ℕ) → r .call ≡ Admit h lo hi f c → Leads (admit s h lo hi f c)
   unfolding admitDone
-  admission h i f c p =
+  admission h lo hi f c p =
       by-cases (ℕ-discrete x h)
       (λ q.
-      admit-cases s h i f c Leads refusal
+      admit-cases s h lo hi f c Leads refusal
       (λ a.
-      begun i f c (kOf i) (anchorFor s (kOf i) f) (rw q p) (2 ^ kOf i, anchorFor s (kOf i) f, f, refl) (rw q (a .unused))
-      (rw q (set-same s good h (a .handle) _))))
-      (λ q. kept (other p q) (admit-others s good h i f c x q))
+      begun lo hi f c (a .k) (anchorFor s (a .k) f) (rw q p) (2 ^ a .k, anchorFor s (a .k) f, f, refl) (rw q (a .reached .unused))
+      (rw q (set-same s good h (a .reached .handle) _))))
+      (λ q. kept (other p q) (admit-others s good h lo hi f c x q))
 
   dropping : (h : ℕ) → r .call ≡ Drop h → Leads (dropHandle s h)
   unfolding dropDone
@@ -124,7 +124,7 @@ module _ (s : Schedule) (good : Good s) (r : Request) (x : ℕ) where
   effect-ruled = go (r .call) refl
     where
       go : (call : Call) → r .call ≡ call → Effect s (leaving (ruledCall s call (r .lent))) x
-      go (Admit h i f c) p = admission h i f c p
+      go (Admit h lo hi f c) p = admission h lo hi f c p
       go (Drop h) p = dropping h p
       go (Report h sample) p = reporting h sample p
       go (Reports reports) p = listing reports p

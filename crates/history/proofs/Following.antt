@@ -18,7 +18,7 @@ start-good Fresh = fresh-is-good
 
 step-good : (s : Schedule) → Good s → (call : Call) (lent : Lent) → Good (ruledCall s call lent .schedule)
 unfolding ruledCall
-step-good s good (Admit h i f c) lent = call-good s good (admits h i f c)
+step-good s good (Admit h lo hi f c) lent = call-good s good (admits h lo hi f c)
 step-good s good (Drop h) lent = call-good s good (drops h)
 step-good s good (Report h sample) lent = call-good s good (reports h sample)
 step-good s good (Reports xs) lent = report-all-good s xs (lent .list) good
@@ -62,7 +62,7 @@ starts-as Fresh s p = p .is
 -- Each promise gives the whole result.
 meets-ruled : (s : Schedule) (call : Call) (lent : Lent) (t : Result) → Meets s call lent t → t ≡ ruledCall s call lent
 unfolding ruledCall
-meets-ruled s (Admit h i f c) lent t (r, p, e) = e ∙ ap (beside lent) (p .is)
+meets-ruled s (Admit h lo hi f c) lent t (r, p, e) = e ∙ ap (beside lent) (p .is)
 meets-ruled s (Drop h) lent t (r, p, e) = e ∙ ap (beside lent) (p .is)
 meets-ruled s (Report h sample) lent t (r, p, e) = e ∙ ap (beside lent) (p .is)
 meets-ruled s (Reports xs) lent t (r, exit, p, e) = e ∙ ap (filled lent) (p .is)

@@ -37,7 +37,7 @@ module _ (x : ℕ) (earlier : Run) (live : isLive (now earlier) x ≡ true) wher
       record { length = w .length; estimate = w .estimate; but = e ∙ w .but; unreported = λ u. e ∙ w .unreported (u .1) }
   longer m between never w (moved quiet report l n e) =
       record { length = l; estimate = n; but = e ∙ ap (λ (c : Connection). metered c l n) (w .but); unreported = λ u. absurd (u .0 report) }
-  longer m between never w (begun i f c k A p a unused e) =
+  longer m between never w (begun lo hi f c k A p a unused e) =
       absurd (false≢true (sym unused ∙ ap (λ (c : Connection). c .live) (w .but) ∙ live))
   longer m between never w (ended p a e) = absurd (never (drops p a))
   longer m between never w (replaced bytes r long isSound image) = absurd (never (ends-replaced bytes r))
@@ -76,9 +76,9 @@ record Stands (c : Connection) (floor ceiling : ℕ) : Type 0 where
 begins-stands : (run : Run) (m : Made) → By ruled (more run m) → (x floor ceiling : ℕ) → Begins m x floor ceiling
     → Stands (connection (m .result .schedule) x) floor ceiling
 unfolding ruledCall
-begins-stands run m by x floor ceiling (admitted i p (F, A, L, a)) =
-    let e = result-is run m by (Admit x i floor ceiling) p in
-    let stored = admit-stored (now run) (now-good run (by .0)) x i floor ceiling F A L (sym (ap (λ (t : Result). t .answer) e) ∙ a) .3 in
+begins-stands run m by x floor ceiling (admitted lo hi p (F, A, L, a)) =
+    let e = result-is run m by (Admit x lo hi floor ceiling) p in
+    let stored = admit-stored (now run) (now-good run (by .0)) x lo hi floor ceiling F A L (sym (ap (λ (t : Result). t .answer) e) ∙ a) .4 in
     let c = ap (λ (t : Result). connection (t .schedule) x) e ∙ stored in
     rw c (record { live = refl; floored = refl; ceiled = refl })
 begins-stands run m by x floor ceiling (restored bytes (p, (n, a)) t long isSound image live f c) =
@@ -137,7 +137,7 @@ goes-on : (run : Run) (m : Made) (x : ℕ) → Effect (now run) m x → connecti
     → (isLive (now run) x ≡ true → Living x run) → Living x (more run m)
 goes-on run m x (kept quiet e) live before = still run m x quiet (before (rw e at live))
 goes-on run m x (moved quiet report l n e) live before = still run m x quiet (before (rw e at live))
-goes-on run m x (begun i f c k A p a unused e) live before = begins-living run m x f c (admitted i p a)
+goes-on run m x (begun lo hi f c k A p a unused e) live before = begins-living run m x f c (admitted lo hi p a)
 goes-on run m x (ended p a e) live before = absurd (false≢true (rw e at live))
 goes-on run m x (replaced bytes w long isSound image) live before =
     begins-living run m x _ _ (restored bytes w (m .result .schedule) long isSound image live refl refl)

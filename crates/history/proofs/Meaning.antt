@@ -2,23 +2,22 @@
 use mathlib.Core.Path.{_≡_, refl, sym, subst, ap, _∙_}
 use mathlib.Core.Bool.{Bool, true, _&&_}
 use Prim.Native.Nat.{ℕ, _*_, _^_, _≤_}
-use native.Mathlib.Nat.{pow-le-pow-right}
 use native.Mathlib.Omega.{arith}
-use lib.Dec.{lit≤}
 use borrow.Author.Tests.{ltb-false, not-false}
 use Rattle.rules.specs.declared.Schedule.{Schedule}
-use Rattle.rules.specs.Core.{isInterval}
+use Rattle.rules.specs.Core.{isRange}
 use Rattle.rules.specs.Ownership.{belongs, owns}
 use Rattle.rules.specs.Good.{Good, treeFor}
 use Rattle.rules.specs.Handles.{connection}
 use Rattle.rules.specs.Answers.{Answer, ok}
-use Rattle.rules.specs.Admit.{kOf, admitDone, admit}
+use Rattle.rules.specs.Admit.{admitDone, admit}
 use Rattle.rules.specs.Image.{image}
 use Rattle.rules.specs.Save.{Written}
 use Rattle.blocks.proofs.EndlessTime.{belongs-reserved}
 use Rattle.rules.specs.Sound.{Numbers}
 use Rattle.blocks.proofs.ScheduleLaws.{good-sound}
-use Rattle.calls.proofs.AdmitLaws.{admit-cases, k-small, k-largest}
+use Rattle.calls.proofs.RangeLaws.{interval-longest, k-unique}
+use Rattle.calls.proofs.AdmitLaws.{Reached, admit-cases}
 use Rattle.calls.proofs.RoomLaws.{no-room-exactly, room-exactly}
 use Rattle.images.proofs.SaveLaws.{save-whole}
 use Rattle.images.proofs.ImageLaws.{load-exactly, load-saves}
@@ -28,25 +27,26 @@ use Rattle.history.specs.Demands.{Meant, IntervalsMeant, EventsMeant, Re
 use Rattle.history.proofs.Following.{now-after, result-after, result-is, now-good}
 
 -- ---- intervals
-interval-meant : (s : Schedule) (x i f c F A L : ℕ) → admit s x i f c .answer ≡ ok F A L → Meant i F
+interval-meant : (s : Schedule) (x lo hi f c F A L : ℕ) → admit s x lo hi f c .answer ≡ ok F A L → Meant lo hi F
 unfolding admitDone
-interval-meant s x i f c F A L =
-    admit-cases s x i f c (λ o. o .answer ≡ ok F A L → Meant i F)
+interval-meant s x lo hi f c F A L =
+    admit-cases s x lo hi f c (λ o. o .answer ≡ ok F A L → Meant lo hi F)
     (λ n e. let z : _≡_ {A = ℕ} 0 1 = cc in absurd (omega arith))
     (λ a e.
-    let p : 2 ^ kOf i ≡ F = cc in
-    let l = k-largest i (a .interval) in
+    let p : 2 ^ a .k ≡ F = cc in
+    let w = interval-longest lo hi (a .k) A f c (a .reached .range) (a .reached .given) in
     record {
-      allowed = a .interval;
-      power = (kOf i, k-small i, sym p);
-      held = omega (arith, p, l .0);
-      longest = λ k d h. subst (λ (y : ℕ). 2 ^ k ≤ y) p (pow-le-pow-right (lit≤ tt) (l .1 k d (omega arith)));
+      allowed = a .reached .range;
+      power = (a .k, a .placeable .deep, sym p);
+      notBelow = omega (arith, p, w .1);
+      notAbove = omega (arith, p, w .2);
+      longest = λ k d l h. omega (arith, p, w .3 k d l h);
     })
 
 intervals : IntervalsMeant (By ruled)
 unfolding ruledCall
-intervals run m x i f c F A L by p a =
-    interval-meant (now run) x i f c F A L (sym (ap (λ (t : Result). t .answer) (result-is run m by (Admit x i f c) p)) ∙ a)
+intervals run m x lo hi f c F A L by p a =
+    interval-meant (now run) x lo hi f c F A L (sym (ap (λ (t : Result). t .answer) (result-is run m by (Admit x lo hi f c) p)) ∙ a)
 
 -- ---- events
 events : EventsMeant (By ruled)
@@ -74,18 +74,25 @@ tree run by = now-good run by .hasTree
 
 -- ---- room
 -- Of an admission that reaches the room check.
-room-asked : (s : Schedule) → Good s → (x i f c : ℕ) → Reaches s x i f c → RoomAsked s (admit s x i f c .answer) (2 ^ kOf i) f
-room-asked s good x i f c reach =
-    let handle = ltb-false 63 x (reach .handle) in
-    let interval = not-false (isInterval i) (reach .interval) in
-    let none = no-room-exactly s good x i f c in
-    let some = room-exactly s good x i f c handle (reach .unused) interval (reach .share) in
+room-asked : (s : Schedule) → Good s → (x lo hi f c k : ℕ) → Reaches s x lo hi f c k → RoomAsked s (admit s x lo hi f c .answer) (2 ^ k) f
+room-asked s good x lo hi f c k reach =
+    let r : Reached s x lo hi f c k =
+    record {
+      handle = ltb-false 63 x (reach .handle);
+      unused = reach .unused;
+      range = not-false (isRange lo hi) (reach .range);
+      given = reach .given;
+      share = reach .share;
+    } in
+    let none = no-room-exactly s good x lo hi f c in
+    let some = room-exactly s good x lo hi f c k r in
     record {
       shut = (
-        λ a A l free. none .0 a .shut A l (λ j lj b y m. free j lj b m y),
-        λ shut.
-            none .1
-            (record { handle = handle; unused = reach .unused; interval = interval; share = reach .share; shut = λ A l free. shut A l (λ j lj b m y. free j lj b y m) }),
+        λ a A l free.
+            let n = none .0 a in
+            let q : k ≡ n .k = k-unique lo hi k (n .k) (reach .given) (n .reached .given) in
+            n .shut A (rw (← q) l) (rw (← q) (λ j lj b y m. free j lj b m y)),
+        λ shut. none .1 (record { k = k; reached = r; shut = λ A l free. shut A l (λ j lj b m y. free j lj b y m) }),
       );
       opens = (
         λ placed. let w = some .0 placed in (w .0, w .1, λ j lj b m y. w .2 j lj b y m),
@@ -95,9 +102,9 @@ room-asked s good x i f c reach =
 
 room : RoomExact (By ruled)
 unfolding ruledCall
-room run m x i f c by p reach =
-    let e = ap (λ (t : Result). t .answer) (result-is run m by (Admit x i f c) p) in
-    subst (λ (a : Answer). RoomAsked (now run) a (2 ^ kOf i) f) (sym e) (room-asked (now run) (now-good run (by .0)) x i f c reach)
+room run m x lo hi f c k by p reach =
+    let e = ap (λ (t : Result). t .answer) (result-is run m by (Admit x lo hi f c) p) in
+    subst (λ (a : Answer). RoomAsked (now run) a (2 ^ k) f) (sym e) (room-asked (now run) (now-good run (by .0)) x lo hi f c k reach)
 
 -- ---- images
 restore : RestoreExact (By ruled)

@@ -44,7 +44,7 @@ outcome-left s lent l n e = (refusal-in-table s l n e, refusal-keeps-schedule s 
 
 call-left : (s : Schedule) (call : Call) (lent : Lent) (n : ℕ) → ruledCall s call lent .answer ≡ refused n → Left s lent (ruledCall s call lent) n
 unfolding ruledCall ownerOf anchor
-call-left s (Admit x i f c) lent n e = outcome-left s lent (Leaves.admits x i f c) n e
+call-left s (Admit x lo hi f c) lent n e = outcome-left s lent (Leaves.admits x lo hi f c) n e
 call-left s (Drop x) lent n e = outcome-left s lent (Leaves.drops x) n e
 call-left s (Report x sample) lent n e = outcome-left s lent (Leaves.reports x sample) n e
 call-left s (Reports reports) lent n e =

@@ -6,7 +6,7 @@ use lib.ListN.{take}
 use lib.Seq.{take-at}
 use Rattle.rules.specs.declared.Schedule.{Schedule}
 use Rattle.rules.specs.declared.Command.{Command}
-use Rattle.rules.specs.declared.Command.the-variants.{Admit, Drop, Report, Owner, Anchor}
+use Rattle.rules.specs.declared.Command.the-variants.{Admit, AdmitRange, Drop, Report, Owner, Anchor}
 use Rattle.rules.specs.declared.Line.{Line}
 use Rattle.rules.specs.declared.Line.the-variants.{Says, Bad}
 use Rattle.rules.specs.Obey.{obey}
@@ -27,6 +27,7 @@ use Rattle.history.specs.Said.{requestOf, heard, heardAll, told, toldAll
 obey-ruled : (s : Schedule) (c : Command) → ruled s (requestOf c) ≡ beside nothing (obey s c)
 unfolding ruledCall obey
 obey-ruled s (Admit handle interval floor ceiling) = refl
+obey-ruled s (AdmitRange handle smallest largest floor ceiling) = refl
 obey-ruled s (Drop handle) = refl
 obey-ruled s (Report handle sample) = refl
 obey-ruled s (Owner block) = refl

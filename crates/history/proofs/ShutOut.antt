@@ -7,13 +7,13 @@ use native.Mathlib.Omega.{arith}
 use lib.ListN.{getD, replicate}
 use Rattle.rules.specs.declared.Connection.{Connection}
 use Rattle.rules.specs.declared.Refusal.the-variants.{HandleAbove63}
-use Rattle.rules.specs.Core.{isInterval}
+use Rattle.rules.specs.Core.{isRange}
 use Rattle.rules.specs.Ownership.{handles, owns}
 use Rattle.rules.specs.Good.{fresh}
 use Rattle.rules.specs.Refusals.{number}
 use Rattle.rules.specs.Answers.{ok}
 use Rattle.rules.specs.Handles.{connection}
-use Rattle.rules.specs.Admit.{kOf}
+use Rattle.rules.specs.Admit.{kIn}
 use Rattle.rules.specs.Image.{image}
 use Rattle.blocks.proofs.ScheduleLaws.{nobody-owns, fresh-is-good}
 use Rattle.images.proofs.ImageLaws.{image-bytes, at-free}
@@ -48,11 +48,11 @@ plain c = record { call = c; lent = nothing }
 
 -- A handle's admission to one block in eight;
 abbrev single : ℕ → Request
-single x = plain (Admit x 48 1 1)
+single x = plain (Admit x 6 48 1 1)
 
 -- and one that may grow to four.
 abbrev growing : Request
-growing = plain (Admit 0 48 1 4)
+growing = plain (Admit 0 6 48 1 4)
 
 abbrev start : History
 start = begin Fresh
@@ -71,12 +71,12 @@ module _ (step : StepFunction) (h : History) (r : Request) where
 -- ---- one that refuses all
 -- A fresh schedule has room,
 pub refuses-all-room : (step : StepFunction) → RefusesAll step → RoomExact (By step) → ⊥
-unfolding startOf isInterval kOf
+unfolding startOf isRange kIn
 refuses-all-room step refuses room =
     let run = begun Fresh (startOf Fresh) in
     let no = refuses (startOf Fresh) (single 0) in
     let yes =
-    room run (leaves step run (single 0)) 0 48 1 1 (refl, refl) refl (record { handle = refl; unused = refl; interval = refl; share = refl }) .opens .1
+    room run (leaves step run (single 0)) 0 6 48 1 1 3 (refl, refl) refl (record { handle = refl; unused = refl; range = refl; given = refl; share = refl }) .opens .1
     (0, omega arith, λ j h b e x. ap (λ c. owns c b) (at-free handles x) ∙ nobody-owns b) in
     let e = no .1 in
     let f = yes .3 in
@@ -180,7 +180,7 @@ invents-answers-lives lives =
         first = leaves inventsAnswers run (single 1);
         between = [];
         whole = refl;
-        begins = admitted 48 refl (8, 1, 1, refl);
+        begins = admitted 6 48 refl (8, 1, 1, refl);
         lasts = tt;
       },
     ))
@@ -225,7 +225,7 @@ ends-another-lives lives =
         first = leaves endsAnother first (single 0);
         between = leaves endsAnother run (plain (Owner 0)) ∷ [];
         whole = refl;
-        begins = admitted 48 refl (8, 0, 1, refl);
+        begins = admitted 6 48 refl (8, 0, 1, refl);
         lasts = (asking-ends-nothing endsAnother run 0 0, tt);
       },
     ))

@@ -25,7 +25,7 @@ use lib.ListN.{length}
 use Rattle.rules.specs.Ownership.{handles, owns, taken}
 use Rattle.rules.specs.Below.{least}
 use Rattle.rules.specs.Good.{Good}
-use Rattle.rules.specs.Admit.{kOf, admitChecks, admitDone, admit}
+use Rattle.rules.specs.Admit.{kFor, admitChecks, admitDone, admit}
 use Rattle.rules.specs.Drop.{dropChecks, dropDone, dropHandle}
 use Rattle.rules.specs.Meter.{change}
 use Rattle.rules.specs.Report.{roomToGrow, aim, reportAnswer, reportChecks, reportDone, report}
@@ -92,10 +92,10 @@ saving s buffer =
 -- So each call has a result that meets its promise.
 meets-some : (s : Schedule) → Good s → (call : Call) (lent : Lent) → (t : Result) × Meets s call lent t
 unfolding admit admitDone dropHandle dropDone report reportDone reportAll reportsDone ownerOf anchor load loadDone
-meets-some s good (Admit h i f c) lent =
-    let w = stands-outcome ofAdmission AdmissionRefused (λ why. refl) (admitChecks s h i f c) s (admitDone s h (kOf i) f c) (Placed _ _ _, refl) in
-    let o = admit s h i f c in
-    (_, (record { answer = w .0; schedule = o .schedule }, record { is = ap (whole o) (w .1); good = call-good s good (admits h i f c) }, refl))
+meets-some s good (Admit h lo hi f c) lent =
+    let w = stands-outcome ofAdmission AdmissionRefused (λ why. refl) (admitChecks s h lo hi f c) s (admitDone s h (kFor lo hi) f c) (Placed _ _ _, refl) in
+    let o = admit s h lo hi f c in
+    (_, (record { answer = w .0; schedule = o .schedule }, record { is = ap (whole o) (w .1); good = call-good s good (admits h lo hi f c) }, refl))
 meets-some s good (Drop h) lent =
     let w = stands-outcome ofDropping DroppingRefused (λ why. refl) (dropChecks s h) s (dropDone s h) (Done, refl) in
     let o = dropHandle s h in

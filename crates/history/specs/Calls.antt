@@ -21,7 +21,7 @@ pub record Bytes : Type 0 where
 
 -- A call with any numbers, any list of reports, or any image bytes.
 pub data Call : Type 0 where
-  Admit : ℕ → ℕ → ℕ → ℕ → Call
+  Admit : ℕ → ℕ → ℕ → ℕ → ℕ → Call
   Drop : ℕ → Call
   Report : ℕ → ℕ → Call
   Reports : List ReportOfList → Call
@@ -66,7 +66,7 @@ written lent s w = record { answer = w .answer; schedule = s; lent = record { bu
 -- The rule sheet's own step: what its definitions give for a call.
 unfoldable pub ruledCall : Schedule → Call → Lent → Result
 unfolding admit dropHandle report reportAll ownerOf anchor save load
-ruledCall s (Admit handle interval floor ceiling) lent = beside lent (admit s handle interval floor ceiling)
+ruledCall s (Admit handle smallest largest floor ceiling) lent = beside lent (admit s handle smallest largest floor ceiling)
 ruledCall s (Drop handle) lent = beside lent (dropHandle s handle)
 ruledCall s (Report handle sample) lent = beside lent (report s handle sample)
 ruledCall s (Reports reports) lent = filled lent (reportAll s reports (lent .list))

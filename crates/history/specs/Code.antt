@@ -27,7 +27,8 @@ StartsAs Fresh s = Starts s
 
 -- One case for each public call: what the code returned meets its promise, and is what is left.
 abbrev pub Meets : Schedule → Call → Lent → Result → Type 0
-Meets s (Admit handle interval floor ceiling) lent t = (r : Admitted) × Admits s handle interval floor ceiling r × (t ≡ beside lent (ofAdmitted r))
+Meets s (Admit handle smallest largest floor ceiling) lent t =
+    (r : Admitted) × Admits s handle smallest largest floor ceiling r × (t ≡ beside lent (ofAdmitted r))
 Meets s (Drop handle) lent t = (r : Dropped) × Drops s handle r × (t ≡ beside lent (ofDropped r))
 Meets s (Report handle sample) lent t = (r : Reported) × SingleReports s handle sample r × (t ≡ beside lent (ofReported r))
 Meets s (Reports reports) lent t =

@@ -4,19 +4,20 @@ use mathlib.Core.Path.{_≡_}
 use mathlib.Core.Bool.{Bool, true, false, cond}
 use mathlib.Core.Logic.{_↔_}
 use mathlib.Core.List.{List}
+use mathlib.Core.Option.{some}
 use lib.IntN.{pos}
 use lib.ListN.{length}
 use Rattle.rules.specs.declared.Schedule.{Schedule}
 use Rattle.rules.specs.declared.Connection.{Connection}
 use Rattle.rules.specs.declared.Refusal.{Refusal as Named}
 use Rattle.rules.specs.declared.Refusal.the-variants.{NoOpenAnchor}
-use Rattle.rules.specs.Core.{isInterval, baseInterval, Reserved}
+use Rattle.rules.specs.Core.{isRange, baseInterval, Reserved}
 use Rattle.rules.specs.Ownership.{handles, largestK, factor, subrating, owns}
 use Rattle.rules.specs.Sound.{sound}
 use Rattle.rules.specs.Good.{treeFor}
 use Rattle.rules.specs.Refusals.{number}
 use Rattle.rules.specs.Handles.{connection, aboveHandles, isLive}
-use Rattle.rules.specs.Admit.{kOf, intervalOutside, shareWrong}
+use Rattle.rules.specs.Admit.{intervalOutside, kIn, shareWrong}
 use Rattle.rules.specs.Lent.{over}
 use Rattle.rules.specs.Image.{image, IsImage}
 use Rattle.rules.specs.Answers.{Answer, refused, ok, saved, loaded}
@@ -47,18 +48,20 @@ pub record Demand1 (S : System) : Type 0 where
   pub refusals : (run : Run) (m : Made) (n : ℕ) → S (more run m) → m .result .answer ≡ refused n → Refusal run m n
 
 -- ---- demand 2
--- "Intervals and subrated events mean what the Bluetooth Core Specification says": an accepted interval is one, and F base intervals, the time
--- from one subrated event to the next, are the longest power of two of them, up to the largest, that it holds;
-pub record Meant (interval F : ℕ) : Type 0 where
-  pub allowed : isInterval interval ≡ true
+-- "Intervals and subrated events mean what the Bluetooth Core Specification says": the bounds of an accepted range are intervals, in order; F base
+-- intervals, the time from one subrated event to the next, last no less than the smallest and no more than the largest; and every 2^k, up to the
+-- largest k, of which that holds is at most F;
+pub record Meant (smallest largest F : ℕ) : Type 0 where
+  pub allowed : isRange smallest largest ≡ true
   pub power : (k : ℕ) × (k ≤ largestK) × (F ≡ 2 ^ k)
-  pub held : F * baseInterval ≤ interval
-  pub longest : (k : ℕ) → k ≤ largestK → 2 ^ k * baseInterval ≤ interval → 2 ^ k ≤ F
+  pub notBelow : smallest ≤ F * baseInterval
+  pub notAbove : F * baseInterval ≤ largest
+  pub longest : (k : ℕ) → k ≤ largestK → smallest ≤ 2 ^ k * baseInterval → 2 ^ k * baseInterval ≤ largest → 2 ^ k ≤ F
 
 abbrev pub IntervalsMeant : System → Type 0
 IntervalsMeant S =
-    (run : Run) (m : Made) (x interval floor ceiling F A L : ℕ) → S (more run m)
-    → AdmissionOf (m .request .call) x interval floor ceiling → m .result .answer ≡ ok F A L → Meant interval F
+    (run : Run) (m : Made) (x smallest largest floor ceiling F A L : ℕ) → S (more run m)
+    → AdmissionOf (m .request .call) x smallest largest floor ceiling → m .result .answer ≡ ok F A L → Meant smallest largest F
 
 -- and a block belongs to a connection exactly if it is reserved for it: one of its subrated events, or of the continuation events after one.
 abbrev pub EventsMeant : System → Type 0
@@ -90,12 +93,13 @@ TreeGiven S = (run : Run) → S run → now run .tree .bytes ≡ treeFor (now ru
 abbrev pub WholeRunFree : Schedule → ℕ → ℕ → ℕ → Type 0
 WholeRunFree s F A floor = (j : ℕ) → j < floor → (b : ℕ) → b % F ≡ (A + j) % F → (x : ℕ) → has s x b ≡ false
 
--- The checks before that of room, 1, 2, 4 and 5, pass.
-pub record Reaches (s : Schedule) (x i f c : ℕ) : Type 0 where
+-- The checks before that of room, 1, 2, 4, 15 and 5, pass, and the range gives k.
+pub record Reaches (s : Schedule) (x smallest largest floor ceiling k : ℕ) : Type 0 where
   pub handle : aboveHandles x ≡ false
   pub unused : isLive s x ≡ false
-  pub interval : intervalOutside i ≡ false
-  pub share : shareWrong f c (2 ^ kOf i) ≡ false
+  pub range : intervalOutside smallest largest ≡ false
+  pub given : kIn smallest largest ≡ some k
+  pub share : shareWrong floor ceiling (2 ^ k) ≡ false
 
 -- It is then refused with 6 exactly when there is none, and accepted exactly when there is one.
 pub record RoomAsked (s : Schedule) (answer : Answer) (F floor : ℕ) : Type 0 where
@@ -104,8 +108,8 @@ pub record RoomAsked (s : Schedule) (answer : Answer) (F floor : ℕ) : Type 0 w
 
 abbrev pub RoomExact : System → Type 0
 RoomExact S =
-    (run : Run) (m : Made) (x interval floor ceiling : ℕ) → S (more run m) → AdmissionOf (m .request .call) x interval floor ceiling
-    → Reaches (now run) x interval floor ceiling → RoomAsked (now run) (m .result .answer) (2 ^ kOf interval) floor
+    (run : Run) (m : Made) (x smallest largest floor ceiling k : ℕ) → S (more run m) → AdmissionOf (m .request .call) x smallest largest floor ceiling
+    → Reaches (now run) x smallest largest floor ceiling k → RoomAsked (now run) (m .result .answer) (2 ^ k) floor
 
 -- "An image is restored exactly when it is the image of some sound schedule,"
 abbrev pub RestoreExact : System → Type 0

@@ -16,9 +16,9 @@ use Rattle.history.specs.Calls.{Bytes, Call, Admit, Drop, Report, Report
 use Rattle.history.specs.Runs.{Made, Run, more, followed}
 
 -- ---- what a call asks for
--- The admission of handle x,
-abbrev pub AdmissionOf : Call → ℕ → ℕ → ℕ → ℕ → Type 0
-AdmissionOf call x interval floor ceiling = call ≡ Admit x interval floor ceiling
+-- The admission of handle x by a smallest and a largest interval, a floor and a ceiling,
+abbrev pub AdmissionOf : Call → ℕ → ℕ → ℕ → ℕ → ℕ → Type 0
+AdmissionOf call x smallest largest floor ceiling = call ≡ Admit x smallest largest floor ceiling
 
 -- its drop,
 abbrev pub DropOf : Call → ℕ → Type 0
@@ -45,7 +45,7 @@ Restores m bytes = RestoreOf (m .request .call) bytes × ((n : ℕ) × (m .resul
 -- The connection of handle x begins, with a floor and a ceiling: "its accepted admission, or the accepted restore of an image
 -- that holds it".
 pub data Begins (m : Made) (x floor ceiling : ℕ) : Type 0 where
-  admitted : (interval : ℕ) → AdmissionOf (m .request .call) x interval floor ceiling → Placed (m .result .answer) → Begins m x floor ceiling
+  admitted : (smallest largest : ℕ) → AdmissionOf (m .request .call) x smallest largest floor ceiling → Placed (m .result .answer) → Begins m x floor ceiling
   restored : (bytes : Bytes) → Restores m bytes → (t : Schedule) → length (t .connections) ≡ handles → sound t ≡ true → IsImage (bytes .list) t
       → connection t x .live ≡ true → connection t x .floor ≡ floor → connection t x .ceiling ≡ ceiling → Begins m x floor ceiling
 

@@ -24,8 +24,8 @@ use Rattle.command.specs.Promises.{Obeys, Runs}
 
 pub record OneOutcome : Type 0 where
   pub fresh : (a b : Schedule) → Starts a → Starts b → a ≡ b
-  pub admit : (s : Schedule) (handle interval floor ceiling : ℕ) (a b : Admitted)
-      → Admits s handle interval floor ceiling a → Admits s handle interval floor ceiling b → a ≡ b
+  pub admit : (s : Schedule) (handle smallest largest floor ceiling : ℕ) (a b : Admitted)
+      → Admits s handle smallest largest floor ceiling a → Admits s handle smallest largest floor ceiling b → a ≡ b
   pub drop : (s : Schedule) (handle : ℕ) (a b : Dropped) → Drops s handle a → Drops s handle b → a ≡ b
   pub report : (s : Schedule) (handle sample : ℕ) (a b : Reported) → Reports s handle sample a → Reports s handle sample b → a ≡ b
   pub reportAll : (s : Schedule) (reports : List Report) (list x y : List ℕ) (a b : ReportedAll)

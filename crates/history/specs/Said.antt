@@ -4,9 +4,10 @@ use mathlib.Core.Path.{_≡_}
 use lib.ListN.{length, take}
 use mathlib.Core.List.{List, [], _∷_, _++_}
 use Rattle.rules.specs.declared.Command.{Command}
-use Rattle.rules.specs.declared.Command.the-variants.{Admit as AdmitCommand, Drop as DropCommand, Report as ReportCommand, Owner as OwnerCommand, Anchor as AnchorCommand}
+use Rattle.rules.specs.declared.Command.the-variants.{Admit as AdmitCommand, AdmitRange as AdmitRangeCommand, Drop as DropCommand, Report as ReportCommand, Owner as OwnerCommand, Anchor as AnchorCommand}
 use Rattle.rules.specs.declared.Line.{Line}
 use Rattle.rules.specs.declared.Line.the-variants.{Says, Bad}
+use Rattle.rules.specs.Obey.{singleFrom}
 use Rattle.rules.specs.Text.{byte, text}
 use Rattle.rules.specs.Split.{parted}
 use Rattle.rules.specs.Words.{wordsOf}
@@ -19,7 +20,8 @@ use Rattle.history.specs.Runs.{Fresh, History, begin, next, after}
 
 -- The call of a command, with nothing lent.
 abbrev pub callOf : Command → Call
-callOf (AdmitCommand handle interval floor ceiling) = Admit handle interval floor ceiling
+callOf (AdmitCommand handle interval floor ceiling) = Admit handle singleFrom interval floor ceiling
+callOf (AdmitRangeCommand handle smallest largest floor ceiling) = Admit handle smallest largest floor ceiling
 callOf (DropCommand handle) = Drop handle
 callOf (ReportCommand handle sample) = Report handle sample
 callOf (OwnerCommand block) = Owner block

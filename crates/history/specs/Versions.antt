@@ -14,15 +14,15 @@ use Rattle.rules.specs.Good.{withConnection}
 use Rattle.rules.specs.Refusals.{number}
 use Rattle.rules.specs.Handles.{connection, isLive}
 use Rattle.rules.specs.Answers.{Answer, refused, ok, dropped, kept, grown, shrunk, tight, owner, idle, slots, saved, loaded, reported}
-use Rattle.rules.specs.Admit.{kOf, newConnection}
+use Rattle.rules.specs.Admit.{kFor, newConnection}
 use Rattle.rules.specs.Drop.{dropHandle}
 use Rattle.rules.specs.Report.{metered}
 use Rattle.history.specs.Calls.{Call, Admit, Drop, Report, Reports, Owner, Anchor, Save, Load, Request, Result, written, ruled}
 use Rattle.history.specs.Runs.{StepFunction}
 
 -- ---- the rule's result, but for one kind of call
-abbrev onAdmit : (ℕ → ℕ → ℕ → ℕ → Result → Result) → Call → Result → Result
-onAdmit f (Admit x i floor ceiling) it = f x i floor ceiling it
+abbrev onAdmit : (ℕ → ℕ → ℕ → ℕ → ℕ → Result → Result) → Call → Result → Result
+onAdmit f (Admit x lo hi floor ceiling) it = f x lo hi floor ceiling it
 onAdmit f (Drop x) it = it
 onAdmit f (Report x sample) it = it
 onAdmit f (Reports reports) it = it
@@ -32,7 +32,7 @@ onAdmit f Save it = it
 onAdmit f (Load bytes) it = it
 
 abbrev onDrop : (Result → Result) → Call → Result → Result
-onDrop f (Admit x i floor ceiling) it = it
+onDrop f (Admit x lo hi floor ceiling) it = it
 onDrop f (Drop x) it = f it
 onDrop f (Report x sample) it = it
 onDrop f (Reports reports) it = it
@@ -47,7 +47,7 @@ onEach f [] it = it
 onEach f (r ∷ reports) it = onEach f reports (f (r .handle) it)
 
 abbrev onReport : (ℕ → Result → Result) → Call → Result → Result
-onReport f (Admit x i floor ceiling) it = it
+onReport f (Admit x lo hi floor ceiling) it = it
 onReport f (Drop x) it = it
 onReport f (Report x sample) it = f x it
 onReport f (Reports reports) it = onEach f reports it
@@ -57,7 +57,7 @@ onReport f Save it = it
 onReport f (Load bytes) it = it
 
 abbrev onOwner : (Result → Result) → Call → Result → Result
-onOwner f (Admit x i floor ceiling) it = it
+onOwner f (Admit x lo hi floor ceiling) it = it
 onOwner f (Drop x) it = it
 onOwner f (Report x sample) it = it
 onOwner f (Reports reports) it = it
@@ -67,7 +67,7 @@ onOwner f Save it = it
 onOwner f (Load bytes) it = it
 
 abbrev onImage : (Result → Result) → (Result → Result) → Call → Result → Result
-onImage save load (Admit x i floor ceiling) it = it
+onImage save load (Admit x lo hi floor ceiling) it = it
 onImage save load (Drop x) it = it
 onImage save load (Report x sample) it = it
 onImage save load (Reports reports) it = it
@@ -101,7 +101,7 @@ saying a it = record { answer = a; schedule = it .schedule; lent = it .lent }
 -- An accepted admission leaves another connection than it should.
 abbrev storing : (Connection → Connection) → StepFunction
 storing change s r =
-    onAdmit (λ x i floor ceiling it. cond (accepted (it .answer)) (leaving (withConnection (it .schedule) x (change (connection (it .schedule) x))) it) it)
+    onAdmit (λ x lo hi floor ceiling it. cond (accepted (it .answer)) (leaving (withConnection (it .schedule) x (change (connection (it .schedule) x))) it) it)
     (r .call) (ruled s r)
 
 -- ---- the rule sheet's six
@@ -112,8 +112,8 @@ RefusesAll step = (s : Schedule) (r : Request) → (n : ℕ) × (step s r .answe
 -- "one that gives every connection anchor 0"
 abbrev pub anchorsZero : StepFunction
 anchorsZero s r =
-    onAdmit (λ x i floor ceiling it.
-    cond (accepted (it .answer)) (saying (ok (2 ^ kOf i) 0 floor) (leaving (withConnection s x (newConnection (kOf i) 0 floor ceiling)) it)) it)
+    onAdmit (λ x lo hi floor ceiling it.
+    cond (accepted (it .answer)) (saying (ok (2 ^ kFor lo hi) 0 floor) (leaving (withConnection s x (newConnection (kFor lo hi) 0 floor ceiling)) it)) it)
     (r .call) (ruled s r)
 
 -- "one that does nothing on report or drop"
@@ -123,7 +123,7 @@ doesNothing s r = onReport (λ x. leaving s) (r .call) (onDrop (leaving s) (r .c
 -- "one that schedules the first admission and invents the later answers": here handle 0's is the first.
 abbrev pub inventsAnswers : StepFunction
 inventsAnswers s r =
-    onAdmit (λ x i floor ceiling it. cond (isLive s 0) (saying (ok (2 ^ kOf i) 1 floor) (leaving s it)) it) (r .call) (ruled s r)
+    onAdmit (λ x lo hi floor ceiling it. cond (isLive s 0) (saying (ok (2 ^ kFor lo hi) 1 floor) (leaving s it)) it) (r .call) (ruled s r)
 
 -- "one whose length is a made-up number": a thousand blocks.
 abbrev pub makesUpLength : StepFunction
