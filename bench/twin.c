@@ -76,8 +76,10 @@ static void set_run(uint8_t *tree, uint32_t k, uint32_t anchor, uint32_t from, u
 
 // ---- admit
 
+enum { LEAST_INTERVAL = 6 };
+
 static int k_of(uint32_t slots) {
-    if (slots < 6 || slots > 3200) return -1;
+    if (slots < LEAST_INTERVAL || slots > 3200) return -1;
     int k = 0;
     while (k < 9 && 6u << (k + 1) <= slots) k++;
     return k;
@@ -105,13 +107,14 @@ static int place(const uint8_t *tree, uint32_t k, uint32_t floor) {
     return -1;
 }
 
-__attribute__((noinline)) static int admit(struct schedule *s, uint32_t handle, uint32_t slots, uint32_t floor, uint32_t ceiling, struct placed *out) {
+__attribute__((noinline)) static int admit(struct schedule *s, uint32_t handle, uint32_t smallest, uint32_t largest, uint32_t floor, uint32_t ceiling, struct placed *out) {
     if (handle > 63) return 1;
     struct connection *c = &s->connections[handle];
     if (c->live) return 2;
-    int k = k_of(slots);
-    if (k < 0) return 4;
+    int k = k_of(largest);
+    if (k < 0 || smallest < LEAST_INTERVAL || largest < smallest) return 4;
     uint32_t f = 1u << k;
+    if (6 * f < smallest) return 15;
     if (floor == 0 || ceiling < floor || f < ceiling) return 5;
     int anchor = place(s->tree, k, floor);
     if (anchor < 0) return 6;
@@ -329,13 +332,16 @@ static void perform_list(struct schedule *s, const char *line) {
 static void perform(struct schedule *s, char *line) {
     static const char *const words[] = {"kept", "grown", "shrunk", "tight"};
     char said[64];
-    uint32_t a, b, c, d, slots;
+    uint32_t a, b, n[5], slots;
     size_t size;
     int no = 0, used = 0;
-    if (sscanf(line, "admit %u %u %u %u", &a, &b, &c, &d) == 4) {
+    int given = sscanf(line, "admit %u %u %u %u %u", &n[0], &n[1], &n[2], &n[3], &n[4]);
+    if (given >= 4) {
         struct placed at;
+        uint32_t smallest = given == 5 ? n[1] : LEAST_INTERVAL;
+        const uint32_t *last = n + given - 3; // largest, floor, ceiling
         mark();
-        no = admit(s, a, b, c, d, &at);
+        no = admit(s, n[0], smallest, last[0], last[1], last[2], &at);
         mark();
         sprintf(said, "ok %u %u %u\n", at.factor, at.anchor, at.length);
     } else if (sscanf(line, "drop %u", &a) == 1) {

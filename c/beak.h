@@ -3,6 +3,7 @@
  * Link target/staticlib/libdoor.a, which c/run builds; of a libc it needs memcpy and memset, and nothing else. x86-64 Linux only.
  *
  * Every number and every byte that a call is given is answered by the rule sheet. What the caller must keep to, as nothing checks it:
+ *  - this header and the archive are of one release: a call may take other numbers in another, and a linker does not look;
  *  - a struct beak is all zeros, or what beak_fresh gave, or what a call left, or a copy of such a one: nobody else writes its bytes;
  *  - one call at a time on a struct beak: no other thread reads or writes it meanwhile;
  *  - as long as a call runs, its image or reports can be read and its buffer or answers written, and none overlaps another or the schedule;
@@ -47,6 +48,9 @@ struct beak_said {
     uint32_t kind, first, second, third;
 };
 
+/* The least connection interval, in slots: the smallest of a host that names one interval. */
+#define BEAK_LEAST_INTERVAL 6u
+
 /* A report of a list: whose, and the microseconds that it used in its last run. */
 struct beak_sample {
     uint32_t handle, sample;
@@ -65,7 +69,7 @@ BEAK_HOLDS(sizeof(struct beak_sample) == 8 && BEAK_ALIGNMENT(struct beak_sample)
 BEAK_HOLDS(sizeof(struct beak_called) == 1168 && offsetof(struct beak_called, schedule) == 16);
 
 struct beak beak_fresh(void);
-struct beak_called beak_admitted(struct beak s, uint32_t handle, uint32_t interval, uint32_t floor, uint32_t ceiling);
+struct beak_called beak_admitted(struct beak s, uint32_t handle, uint32_t smallest, uint32_t largest, uint32_t floor, uint32_t ceiling);
 struct beak_called beak_dropped(struct beak s, uint32_t handle);
 struct beak_called beak_reported(struct beak s, uint32_t handle, uint32_t sample);
 /* the numbers are handle, sample, handle, sample, and so many of them; a last odd one is none */
@@ -81,9 +85,11 @@ static inline void beak_start(struct beak *s) {
     *s = beak_fresh();
 }
 
-/* Admit a connection: PLACED. Refused: 1 handle above 63, 2 handle live, 4 interval outside 6 to 3,200 slots, 5 floor or ceiling wrong, 6 no open anchor. */
-static inline struct beak_said beak_admit(struct beak *s, uint32_t handle, uint32_t interval, uint32_t floor, uint32_t ceiling) {
-    struct beak_called r = beak_admitted(*s, handle, interval, floor, ceiling);
+/* Admit a connection with a smallest and a largest interval in slots: PLACED, by the largest 6 * 2^k that is not above the largest and not below the
+ * smallest. Refused, in this order: 1 handle above 63, 2 handle live, 4 either bound outside 6 to 3,200 or smallest above largest, 15 no such interval
+ * in the range, 5 floor or ceiling wrong, 6 no open anchor. */
+static inline struct beak_said beak_admit(struct beak *s, uint32_t handle, uint32_t smallest, uint32_t largest, uint32_t floor, uint32_t ceiling) {
+    struct beak_called r = beak_admitted(*s, handle, smallest, largest, floor, ceiling);
     *s = r.schedule;
     return r.said;
 }

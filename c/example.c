@@ -1,4 +1,4 @@
-/* The rule sheet's whole case, call by call; then a save, a fresh start, and a load of those bytes; and reports of a whole cycle at once. */
+/* The rule sheet's whole case, call by call; a save, a fresh start, and a load of those bytes; reports of a whole cycle at once; and admissions by a range. */
 #include <stdbool.h>
 #include <stdio.h>
 #include <string.h>
@@ -26,13 +26,13 @@ static bool all(const uint8_t *from, const uint8_t *end, uint8_t byte) {
 }
 
 static void whole_case(void) {
-    told("admit 0 48 1 4     ok 8 0 1", beak_admit(&house, 0, 48, 1, 4), BEAK_PLACED, 8, 0, 1);
-    told("admit 1 48 1 1     ok 8 4 1", beak_admit(&house, 1, 48, 1, 1), BEAK_PLACED, 8, 4, 1);
+    told("admit 0 48 1 4     ok 8 0 1", beak_admit(&house, 0, BEAK_LEAST_INTERVAL, 48, 1, 4), BEAK_PLACED, 8, 0, 1);
+    told("admit 1 48 1 1     ok 8 4 1", beak_admit(&house, 1, BEAK_LEAST_INTERVAL, 48, 1, 1), BEAK_PLACED, 8, 4, 1);
     told("report 0 7500      grown 2", beak_report(&house, 0, 7500), BEAK_GROWN, 2, 0, 0);
     told("owner 9            owner 0", beak_owner(&house, 9), BEAK_OWNER, 0, 0, 0);
     told("owner 7            idle", beak_owner(&house, 7), BEAK_IDLE, 0, 0, 0);
     told("anchor 1 6         slots 36", beak_anchor(&house, 1, 6), BEAK_SLOTS, 36, 0, 0);
-    told("admit 2 6 1 1      no 6", beak_admit(&house, 2, 6, 1, 1), BEAK_REFUSED, 6, 0, 0);
+    told("admit 2 6 1 1      no 6", beak_admit(&house, 2, BEAK_LEAST_INTERVAL, 6, 1, 1), BEAK_REFUSED, 6, 0, 0);
     told("drop 5             no 3", beak_drop(&house, 5), BEAK_REFUSED, 3, 0, 0);
 }
 
@@ -58,7 +58,7 @@ static void reports_at_once(void) {
     uint32_t answers[4] = {before, before, before, before};
     struct beak other;
     beak_start(&other);
-    told("admit 0 48 1 4     ok 8 0 1", beak_admit(&other, 0, 48, 1, 4), BEAK_PLACED, 8, 0, 1);
+    told("admit 0 48 1 4     ok 8 0 1", beak_admit(&other, 0, BEAK_LEAST_INTERVAL, 48, 1, 4), BEAK_PLACED, 8, 0, 1);
     told("no reports         reported 0", beak_report_all(&other, NULL, 0, NULL, 0), BEAK_REPORTED, 0, 0, 0);
     told("3 reports into 2   no 14", beak_report_all(&other, cycle, 3, answers, 2), BEAK_REFUSED, 14, 0, 0);
     expect(answers[0] == before && answers[1] == before, "a refused list leaves the entries as they were");
@@ -72,6 +72,14 @@ static void reports_at_once(void) {
     told("entry 262656       tight 512", beak_entry(262656), BEAK_TIGHT, 512, 0, 0);
     told("entry 0            none", beak_entry(0), 0, 0, 0, 0);
     told("entry as it was    none", beak_entry(before), 0, 0, 0, 0);
+}
+
+/* Of 6, 12, 24, 48, .. the largest from 12 to 30 is 24, four blocks; from 13 to 23 there is none. */
+static void by_a_range(void) {
+    struct beak other;
+    beak_start(&other);
+    told("admit 0 12 30 1 1  ok 4 0 1", beak_admit(&other, 0, 12, 30, 1, 1), BEAK_PLACED, 4, 0, 1);
+    told("admit 1 13 23 1 1  no 15", beak_admit(&other, 1, 13, 23, 1, 1), BEAK_REFUSED, 15, 0, 0);
 }
 
 /* A schedule of zeros is the fresh one: proved of its fields, and compared here byte by byte. */
@@ -88,6 +96,7 @@ int main(void) {
     whole_case();
     save_and_load();
     reports_at_once();
+    by_a_range();
     puts(right ? "as the rule sheet has it" : "NOT as the rule sheet has it");
     return right ? 0 : 1;
 }

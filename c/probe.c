@@ -49,12 +49,16 @@ static bool number(struct rest *r, uint32_t *n) {
 /* A number after one space. */
 static bool spaced(struct rest *r, uint32_t *n) { return passes(r, " ") && number(r, n); }
 
-/* So many numbers, one space before each, and then the line's end. */
-static bool numbers(struct rest r, int count, uint32_t *n) {
-    while (count-- > 0)
-        if (!spaced(&r, n++)) return false;
-    return ends(r);
+/* Numbers to the line's end, one space before each: how many, or -1 where there is something else or more than the most. */
+static int row(struct rest r, int most, uint32_t *n) {
+    int count = 0;
+    for (; !ends(r); count++)
+        if (count == most || !spaced(&r, &n[count])) return -1;
+    return count;
 }
+
+/* So many numbers, and no other count. */
+static bool numbers(struct rest r, int count, uint32_t *n) { return row(r, count, n) == count; }
 
 static int nibble(char c) {
     if (c >= '0' && c <= '9') return c - '0';
@@ -122,12 +126,15 @@ static void print_state(void) {
 /* ---- a line: each takes what follows its word, and says whether it was one */
 
 static bool command(struct rest r) {
-    uint32_t n[4];
+    uint32_t n[5];
     struct beak_said said;
     if (passes(&r, "admit")) {
-        if (!numbers(r, 4, n)) return false;
+        int count = row(r, 5, n);
+        if (count != 4 && count != 5) return false;
+        uint32_t smallest = count == 5 ? n[1] : BEAK_LEAST_INTERVAL;
+        const uint32_t *last = n + count - 3; /* largest, floor, ceiling */
         mark();
-        said = beak_admit(&s, n[0], n[1], n[2], n[3]);
+        said = beak_admit(&s, n[0], smallest, last[0], last[1], last[2]);
     } else if (passes(&r, "drop")) {
         if (!numbers(r, 1, n)) return false;
         mark();

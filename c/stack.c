@@ -16,9 +16,9 @@ static size_t size;
 static ucontext_t here, there;
 
 static void nothing(void) {}
-static void admit_whole(void) { said = beak_admit(&s, 0, 6, 1, 1); }
-static void admit_longest(void) { said = beak_admit(&s, 0, 3072, 512, 512); }
-static void admit_half(void) { said = beak_admit(&s, 0, 12, 1, 2); }
+static void admit_whole(void) { said = beak_admit(&s, 0, BEAK_LEAST_INTERVAL, 6, 1, 1); }
+static void admit_longest(void) { said = beak_admit(&s, 0, BEAK_LEAST_INTERVAL, 3072, 512, 512); }
+static void admit_half(void) { said = beak_admit(&s, 0, BEAK_LEAST_INTERVAL, 12, 1, 2); }
 static void drop(void) { said = beak_drop(&s, 0); }
 static void report(void) { said = beak_report(&s, 0, 7500); }
 static void report_all(void) { said = beak_report_all(&s, cycle, 64, answers, 64); }
@@ -34,7 +34,7 @@ static void fresh(void) { beak_start(&s); }
 
 static void fill(void) {
     fresh();
-    for (uint32_t handle = 0; handle < 64; handle++) said = beak_admit(&s, handle, 3072, 8, 8);
+    for (uint32_t handle = 0; handle < 64; handle++) said = beak_admit(&s, handle, BEAK_LEAST_INTERVAL, 3072, 8, 8);
 }
 
 /* All of one handle, of which the first grows. */

@@ -30,6 +30,7 @@ use questions::anchor;
 use questions::owner;
 use reports::report_pairs;
 use rules::Command;
+use rules::LEAST_INTERVAL;
 use rules::LONGEST_ANSWER;
 use rules::Loading;
 use rules::Reply;
@@ -87,12 +88,19 @@ fn tell_list(answer: ReportingAll, list: &[u32])
     end();
 }
 
-fn admitted(s: Schedule, handle: u32, interval: u32, floor: u32, ceiling: u32) -> Schedule
+fn admitted(
+    s: Schedule,
+    handle: u32,
+    smallest: u32,
+    largest: u32,
+    floor: u32,
+    ceiling: u32,
+) -> Schedule
     requires { ⌜ Good s ⌝ }
     ensures { λ r. ⌜ Good r ⌝ }
 {
     mark();
-    let done = admit(s, handle, interval, floor, ceiling);
+    let done = admit(s, handle, smallest, largest, floor, ceiling);
     let left = done.schedule;
     mark();
     let answer = done.answer;
@@ -206,7 +214,14 @@ fn obeyed(s: Schedule, command: Command) -> Schedule
             interval,
             floor,
             ceiling,
-        } => admitted(s, handle, interval, floor, ceiling),
+        } => admitted(s, handle, LEAST_INTERVAL, interval, floor, ceiling),
+        Command::AdmitRange {
+            handle,
+            smallest,
+            largest,
+            floor,
+            ceiling,
+        } => admitted(s, handle, smallest, largest, floor, ceiling),
         Command::Drop(handle) => dropped(s, handle),
         Command::Report { handle, sample } => reported(s, handle, sample),
         Command::Owner(block) => {

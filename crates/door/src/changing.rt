@@ -33,14 +33,15 @@ pub extern "C" fn beak_fresh() -> Schedule
 pub extern "C" fn beak_admitted(
     s: Schedule,
     handle: u32,
-    interval: u32,
+    smallest: u32,
+    largest: u32,
     floor: u32,
     ceiling: u32,
 ) -> Called
     requires { ⌜ Good s ⌝ }
-    ensures { λ r. ⌜ Leaves (admitRule s handle interval floor ceiling) r ⌝ }
+    ensures { λ r. ⌜ Leaves (admitRule s handle smallest largest floor ceiling) r ⌝ }
 {
-    let done = admit(s, handle, interval, floor, ceiling);
+    let done = admit(s, handle, smallest, largest, floor, ceiling);
     let answer = done.answer;
     let said = admission(answer);
     let schedule = done.schedule;

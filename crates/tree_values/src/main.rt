@@ -1,6 +1,7 @@
 //! Runs the rule sheet's values of the tree that are not marked P, and prints what it finds.
 ghost use Prim.Native.Nat.{_<_, _≤_, _^_};
 ghost use Rattle.rules.specs.Classes.{depth};
+use rules::LEAST_INTERVAL;
 use rules::Schedule;
 use rules::TREE_BYTES;
 use schedule::admit;
@@ -25,9 +26,9 @@ fn say_bits(s: Schedule) {
 // The same connections, admitted; and none.
 fn admitted() {
     say_bits(fresh());
-    let eighth = admit(fresh(), 0, 48, 1, 1);
+    let eighth = admit(fresh(), 0, LEAST_INTERVAL, 48, 1, 1);
     say_bits(eighth.schedule);
-    let whole = admit(fresh(), 63, 6, 1, 1);
+    let whole = admit(fresh(), 63, LEAST_INTERVAL, 6, 1, 1);
     say_bits(whole.schedule);
     let dropped = drop(whole.schedule, 63);
     say_bits(dropped.schedule);
