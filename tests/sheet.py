@@ -1,4 +1,4 @@
-"""Images from the rule sheet's words, for scripts: every block under its owner, every node over its blocks."""
+"""For scripts, from the rule sheet's and the requests' words: images, every block under its owner, every node over its blocks; the factor of a range, over all k."""
 
 
 def tree(connections):
@@ -23,3 +23,8 @@ def image(connections):
         records.append(little((14, 2), (2, 2), (h, 1), (k, 1), (a, 2), (length, 2), (floor, 2), (ceiling, 2), (e, 4)))
     records.append(little((128, 2), (3, 2)) + tree(connections))
     return b"".join(records).hex()
+
+
+def factor(smallest, largest):
+    """Of all 6 × 2^k in a range of intervals, k to 9, the largest one's 2^k, or None."""
+    return max((2**k for k in range(10) if smallest <= 6 * 2**k <= largest), default=None)

@@ -1,4 +1,4 @@
-//! Thirteen slips, one of which can be planted at a time (`peer --fault N`).
+//! Sixteen slips, one of which can be planted at a time (`peer --fault N`).
 //! A comparison that does not find each of them is too weak.
 
 #[derive(Clone, Copy, Debug, PartialEq, Eq)]
@@ -23,7 +23,7 @@ pub enum Fault {
     OverlapFirst,
     /// 9: save writes zeros over the rest of the buffer.
     RestZeroed,
-    /// 10: the interval 3,200 is refused.
+    /// 10: a largest interval of 3,200 is refused.
     LastIntervalRefused,
     /// 11: a refused report ends the list of reports.
     RefusedEndsList,
@@ -31,10 +31,16 @@ pub enum Fault {
     RestOfListCleared,
     /// 13: a list of reports is checked for 14 before 13.
     ShortBeforeMany,
+    /// 14: of a range the smallest is not asked, and so 15 is never given.
+    SmallestNotAsked,
+    /// 15: 6 × 2^k is to be above the smallest, where it is to be not below it.
+    SmallestLeftOut,
+    /// 16: the bounds of a range are read in the other order.
+    BoundsExchanged,
 }
 
 /// The faults by number, 1 first.
-pub const FAULTS: [Fault; 13] = [
+pub const FAULTS: [Fault; 16] = [
     Fault::CountingOrder,
     Fault::TowardZero,
     Fault::FirstPeriodOnly,
@@ -48,9 +54,12 @@ pub const FAULTS: [Fault; 13] = [
     Fault::RefusedEndsList,
     Fault::RestOfListCleared,
     Fault::ShortBeforeMany,
+    Fault::SmallestNotAsked,
+    Fault::SmallestLeftOut,
+    Fault::BoundsExchanged,
 ];
 
-/// The fault with this number, 1 to 13.
+/// The fault with this number, 1 to 16.
 pub fn by_number(number: usize) -> Option<Fault> {
     FAULTS.get(number.checked_sub(1)?).copied()
 }

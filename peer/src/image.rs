@@ -149,7 +149,7 @@ mod tests {
         let mut schedule = Schedule::fresh(Fault::None);
         assert_eq!(image(&schedule).len(), 138);
         for handle in 0..64 {
-            assert!(schedule.admit(handle, 3_200, 8, 8).is_ok());
+            assert!(schedule.admit(handle, 6, 3_200, 8, 8).is_ok());
         }
         assert_eq!(image(&schedule).len(), 1_290);
         assert_eq!(save(&schedule, &mut [0; 1_289]), Err(8));
@@ -159,8 +159,8 @@ mod tests {
     #[test]
     fn back_again() {
         let mut schedule = Schedule::fresh(Fault::None);
-        assert!(schedule.admit(7, 48, 2, 5).is_ok());
-        assert!(schedule.admit(63, 3_072, 3, 512).is_ok());
+        assert!(schedule.admit(7, 6, 48, 2, 5).is_ok());
+        assert!(schedule.admit(63, 6, 3_072, 3, 512).is_ok());
         let bytes = image(&schedule);
         let loaded = load(&bytes, Fault::None).map(|loaded| loaded.connections);
         assert_eq!(loaded, Ok(schedule.connections));

@@ -1,4 +1,4 @@
-//! A second implementation of the scheduler, written from the rule sheet alone,
+//! A second implementation of the scheduler, written from the rule sheet and the requests alone,
 //! to hold the proved one against it. It is brute force on purpose: nothing is
 //! kept but the connections, and everything else (who owns which block, the
 //! tree of taken blocks) is worked out anew from them each time it is asked for.
@@ -7,7 +7,7 @@
 //! * `reports`: a list of reports, and the entries that answer them.
 //! * `image`: the image's bytes, written and read back with their checks.
 //! * `script`: the lines of text that drive it, and their answers.
-//! * `fault`: thirteen slips that can be planted, to show that a comparison finds them.
+//! * `fault`: sixteen slips that can be planted, to show that a comparison finds them.
 
 #![forbid(unsafe_code)]
 

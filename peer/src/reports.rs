@@ -62,7 +62,7 @@ mod tests {
 
     fn one_at_48() -> Schedule {
         let mut schedule = Schedule::fresh(Fault::None);
-        assert_eq!(schedule.admit(0, 48, 1, 4), Ok((8, 0, 1)));
+        assert_eq!(schedule.admit(0, 6, 48, 1, 4), Ok((8, 0, 1)));
         schedule
     }
 

@@ -10,10 +10,14 @@ pub const SLOTS: i64 = 6;
 pub const BLOCK_US: i64 = 7_500;
 /// The guard at the end of a run.
 pub const GUARD_US: i64 = 2_500;
+/// The Core Specification's least connection interval, in slots.
+pub const LEAST_INTERVAL: i64 = 6;
+/// The Core Specification's greatest connection interval, in slots.
+pub const GREATEST_INTERVAL: i64 = 3_200;
 /// Handles are 0 to 63.
 pub const HANDLES: usize = 64;
 
-/// The number of a refusal, 1 to 14.
+/// The number of a refusal, 1 to 15.
 pub type Refusal = u32;
 
 /// For each of the 512 blocks: does it belong to someone?
@@ -111,11 +115,27 @@ impl Schedule {
         }
     }
 
-    /// Admit: checks 1, 2, 4, 5, 6. Answers F, A, L.
+    /// The k of a range: of all 6 × 2^k that are not below the smallest and not
+    /// above the largest, the largest one's, if there is one.
+    fn k_in(&self, smallest: i64, largest: i64) -> Option<i64> {
+        let in_range = |k: &i64| {
+            let interval = SLOTS << k;
+            let not_below = match self.fault {
+                Fault::SmallestNotAsked => true,
+                Fault::SmallestLeftOut => interval > smallest,
+                _ => interval >= smallest,
+            };
+            not_below && interval <= largest
+        };
+        (0..=9).filter(in_range).max()
+    }
+
+    /// Admit: checks 1, 2, 4, 15, 5, 6. Answers F, A, L.
     pub fn admit(
         &mut self,
         handle: i64,
-        interval: i64,
+        smallest: i64,
+        largest: i64,
         floor: i64,
         ceiling: i64,
     ) -> Result<(i64, i64, i64), Refusal> {
@@ -123,16 +143,16 @@ impl Schedule {
         if self.connections[place].is_some() {
             return Err(2);
         }
-        if !(6..=3_200).contains(&interval) {
+        let intervals = LEAST_INTERVAL..=GREATEST_INTERVAL;
+        if !intervals.contains(&smallest) || !intervals.contains(&largest) || smallest > largest {
             return Err(4);
         }
-        if self.fault == Fault::LastIntervalRefused && interval == 3_200 {
+        if self.fault == Fault::LastIntervalRefused && largest == GREATEST_INTERVAL {
             return Err(4);
         }
-        let mut k = 0;
-        while k < 9 && SLOTS << (k + 1) <= interval {
-            k += 1;
-        }
+        let Some(k) = self.k_in(smallest, largest) else {
+            return Err(15);
+        };
         let factor = 1 << k;
         if floor == 0 || ceiling < floor || ceiling > factor {
             return Err(5);
@@ -313,35 +333,64 @@ mod tests {
         for (interval, factor) in
             [(6, 1), (11, 1), (12, 2), (3_071, 256), (3_072, 512), (3_200, 512)]
         {
-            assert_eq!(fresh().admit(0, interval, 1, 1), Ok((factor, 0, 1)));
+            assert_eq!(fresh().admit(0, 6, interval, 1, 1), Ok((factor, 0, 1)));
         }
-        assert_eq!(fresh().admit(0, 5, 1, 1), Err(4));
-        assert_eq!(fresh().admit(0, 3_201, 1, 1), Err(4));
+        assert_eq!(fresh().admit(0, 6, 5, 1, 1), Err(4));
+        assert_eq!(fresh().admit(0, 6, 3_201, 1, 1), Err(4));
+    }
+
+    #[test]
+    fn ranges() {
+        for (smallest, largest, factor) in [
+            (6, 6, 1),
+            (12, 12, 2),
+            (13, 24, 4),
+            (1_536, 3_071, 256),
+            (6, 3_200, 512),
+            (3_072, 3_072, 512),
+        ] {
+            assert_eq!(fresh().admit(0, smallest, largest, 1, factor), Ok((factor, 0, 1)));
+            assert_eq!(fresh().admit(0, smallest, largest, 1, factor + 1), Err(5));
+        }
+        for (smallest, largest, refusal) in [
+            (7, 11, 15),
+            (13, 23, 15),
+            (1_537, 3_071, 15),
+            (3_073, 3_200, 15),
+            (3_200, 3_200, 15),
+            (5, 6, 4),
+            (6, 3_201, 4),
+            (12, 11, 4),
+            (0, 0, 4),
+        ] {
+            assert_eq!(fresh().admit(0, smallest, largest, 1, 1), Err(refusal));
+            assert_eq!(fresh().admit(0, smallest, largest, 0, 0), Err(refusal));
+        }
     }
 
     #[test]
     fn four_at_48_then_12() {
         let mut s = fresh();
         for (handle, anchor) in [(0, 0), (1, 4), (2, 2), (3, 6)] {
-            assert_eq!(s.admit(handle, 48, 1, 1), Ok((8, anchor, 1)));
+            assert_eq!(s.admit(handle, 6, 48, 1, 1), Ok((8, anchor, 1)));
         }
-        assert_eq!(s.admit(4, 12, 1, 1), Ok((2, 1, 1)));
-        assert_eq!(s.admit(5, 48, 1, 1), Err(6));
+        assert_eq!(s.admit(4, 6, 12, 1, 1), Ok((2, 1, 1)));
+        assert_eq!(s.admit(5, 6, 48, 1, 1), Err(6));
     }
 
     #[test]
     fn two_runs_of_two() {
         let mut s = fresh();
-        assert_eq!(s.admit(0, 24, 2, 2), Ok((4, 0, 2)));
-        assert_eq!(s.admit(1, 24, 2, 2), Ok((4, 2, 2)));
-        assert_eq!(s.admit(2, 24, 2, 2), Err(6));
+        assert_eq!(s.admit(0, 6, 24, 2, 2), Ok((4, 0, 2)));
+        assert_eq!(s.admit(1, 6, 24, 2, 2), Ok((4, 2, 2)));
+        assert_eq!(s.admit(2, 6, 24, 2, 2), Err(6));
     }
 
     #[test]
     fn a_run_round_the_end() {
         let mut s =
             with(Connection { k: 2, anchor: 1, length: 2, floor: 2, ceiling: 2, estimate: 0 });
-        assert_eq!(s.admit(1, 24, 2, 2), Ok((4, 3, 2)));
+        assert_eq!(s.admit(1, 6, 24, 2, 2), Ok((4, 3, 2)));
         assert_eq!(s.owner(3), Some(1));
         assert_eq!(s.owner(0), Some(1));
         assert_eq!(s.owner(2), Some(0));
@@ -392,15 +441,15 @@ mod tests {
         let bits = |s: &Schedule| s.tree().iter().map(|byte| byte.count_ones()).sum::<u32>();
         let mut s = fresh();
         assert_eq!(bits(&s), 0);
-        assert_eq!(s.admit(0, 48, 1, 1), Ok((8, 0, 1)));
+        assert_eq!(s.admit(0, 6, 48, 1, 1), Ok((8, 0, 1)));
         assert_eq!(bits(&s), 130);
         // An ancestor stays while its other child is taken.
-        assert_eq!(s.admit(1, 48, 1, 1), Ok((8, 4, 1)));
+        assert_eq!(s.admit(1, 6, 48, 1, 1), Ok((8, 4, 1)));
         assert_eq!(s.drop(1), Ok(()));
         assert_eq!(bits(&s), 130);
         assert_eq!(s.drop(0), Ok(()));
         assert_eq!(bits(&s), 0);
-        assert_eq!(s.admit(0, 6, 1, 1), Ok((1, 0, 1)));
+        assert_eq!(s.admit(0, 6, 6, 1, 1), Ok((1, 0, 1)));
         assert_eq!(bits(&s), 1_023);
         assert_eq!(s.tree()[0], 0xFE);
         assert!(s.tree()[1..].iter().all(|&byte| byte == 0xFF));

@@ -3,7 +3,7 @@
 use crate::fault::Fault;
 use crate::image;
 use crate::reports::{report_all, Report};
-use crate::schedule::{Moved, Refusal, Schedule};
+use crate::schedule::{Moved, Refusal, Schedule, LEAST_INTERVAL};
 
 /// A script has at most this many bytes.
 pub const LONGEST_SCRIPT: usize = 65_536;
@@ -67,10 +67,14 @@ impl Session {
         let schedule = &mut self.schedule;
         let answer = match (word, numbers.as_slice()) {
             (b"admit", &[handle, interval, floor, ceiling]) => {
-                match schedule.admit(handle, interval, floor, ceiling) {
-                    Ok((factor, anchor, length)) => format!("ok {factor} {anchor} {length}"),
-                    Err(refusal) => no(refusal),
-                }
+                admit(schedule, handle, (LEAST_INTERVAL, interval), floor, ceiling)
+            }
+            (b"admit", &[handle, smallest, largest, floor, ceiling]) => {
+                let range = match schedule.fault {
+                    Fault::BoundsExchanged => (largest, smallest),
+                    _ => (smallest, largest),
+                };
+                admit(schedule, handle, range, floor, ceiling)
             }
             (b"drop", &[handle]) => match schedule.drop(handle) {
                 Ok(()) => "ok".to_string(),
@@ -118,6 +122,20 @@ impl Session {
             }
             Err(refusal) => Some(no(refusal)),
         }
+    }
+}
+
+/// `admit` in either form, of a range from its smallest interval to its largest.
+fn admit(
+    schedule: &mut Schedule,
+    handle: i64,
+    (smallest, largest): (i64, i64),
+    floor: i64,
+    ceiling: i64,
+) -> String {
+    match schedule.admit(handle, smallest, largest, floor, ceiling) {
+        Ok((factor, anchor, length)) => format!("ok {factor} {anchor} {length}"),
+        Err(refusal) => no(refusal),
     }
 }
 
@@ -241,6 +259,17 @@ mod tests {
         assert_eq!(right("owner 18446744073709551616\nowner \nowner\n"), "bad\nbad\nbad\n");
         assert_eq!(right("drop 64\ndrop 4294967295\n"), "no 1\nno 1\n");
         assert_eq!(right(" owner 0\nowner  0\nowner 0 \nowner 0\r\n"), "bad\n".repeat(4));
+    }
+
+    #[test]
+    fn ranges() {
+        assert_eq!(
+            right("admit 0 12 30 1 1\nadmit 1 13 23 1 1\nadmit 1 30 12 1 1\nadmit 1 6 48 1 1\n"),
+            "ok 4 0 1\nno 15\nno 4\nok 8 2 1\n"
+        );
+        assert_eq!(right("admit 0 12 30 1 1\nadmit 1 48 1 1\n"), "ok 4 0 1\nok 8 2 1\n");
+        assert_eq!(right("admit 0 5 1 1\nadmit 0 48 1 1 1\n"), "no 4\nno 4\n");
+        assert_eq!(right("admit 0 48 1\nadmit 0 6 48 1 1 1\nadmit\n"), "bad\n".repeat(3));
     }
 
     #[test]

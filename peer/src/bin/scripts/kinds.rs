@@ -4,6 +4,7 @@ use crate::images;
 use crate::lines;
 use crate::lists;
 use crate::random::Random;
+use crate::ranges;
 use crate::sheet::Sheet;
 use peer::image::image;
 use peer::script::{hex, LONGEST_SCRIPT};
@@ -35,6 +36,7 @@ fn realistic(sheet: &mut Sheet, turn: usize) {
         day(sheet);
     }
     lists_in_turn(sheet, turn);
+    every_range(sheet);
     sheet.say("save");
 }
 
@@ -60,9 +62,27 @@ fn lists_in_turn(sheet: &mut Sheet, turn: usize) {
     }
 }
 
-/// The cases that the rule sheet itself names, each on a fresh schedule.
+/// A range of each kind, with a share that 5 refuses and with one that it lets
+/// pass; who is admitted leaves again.
+fn every_range(sheet: &mut Sheet) {
+    let schedule = &sheet.session.schedule;
+    let handle = lines::idle_handle(&mut sheet.random, schedule).unwrap_or(0);
+    for which in 0..ranges::RANGES {
+        let range = ranges::of_kind(&mut sheet.random, which);
+        for passes in [false, true] {
+            let share = ranges::share(&mut sheet.random, 1 << lines::k_of(range.1), passes);
+            let line = lines::admission(&mut sheet.random, handle as i64, range, share);
+            if sheet.say(line).starts_with("ok") {
+                sheet.say("state");
+                sheet.say(format!("drop {handle}"));
+            }
+        }
+    }
+}
+
+/// The cases that the rule sheet itself names, and such of ranges, each on a fresh schedule.
 #[rustfmt::skip]
-const NAMED: [&[&str]; 7] = [
+const NAMED: [&[&str]; 8] = [
     &["admit 0 48 1 4", "admit 1 48 1 1", "report 0 7500", "owner 9", "owner 7", "anchor 1 6",
         "admit 2 6 1 1", "drop 5"],
     &["admit 0 48 1 1", "admit 1 48 1 1", "admit 2 48 1 1", "admit 3 48 1 1", "admit 4 12 1 1",
@@ -76,6 +96,8 @@ const NAMED: [&[&str]; 7] = [
         "report 0 7500"],
     &["admit 0 48 1 1", "admit 1 48 1 1", "save", "drop 0", "save", "drop 1", "save"],
     &["admit 0 48 1 4", "reports 2 0 7500 9 0 0 7500", "reports 4 0 7500 9 0 0 7500", "reports 0"],
+    &["admit 0 48 1 4 5", "admit 0 12 30 1 1", "admit 1 13 23 1 1", "admit 1 30 12 1 1",
+        "admit 1 6 48 1 1", "drop 1", "admit 1 48 1 1"],
 ];
 
 /// (b) The house is filled until there is no room, thinned, and filled again.
@@ -85,6 +107,7 @@ fn dense(sheet: &mut Sheet, turn: usize) {
     }
     sheet.say("state");
     sheet.say("fresh");
+    every_range(sheet);
 
     // Half of them begin in a house that is well filled, with runs anywhere.
     if turn % 2 == 1 {
@@ -170,13 +193,13 @@ fn push_and_let_go(sheet: &mut Sheet) {
 const BAD: [&[u8]; 90] = [
     b"", b" ", b"  ", b"\t", b"\r", b"\0", b"\xff", b"0", b"48", b"#", b"help", b"ok", b"bad",
     b"a", b"ad", b"admi", b"admit", b"admit ", b"admit 0", b"admit 0 48", b"admit 0 48 1",
-    b"admit 0 48 1 ", b"admit 0 48 1 4 5", b"admit0 48 1 4", b"admit,0,48,1,4", b"admits 0 48 1 4",
-    b"ADMIT 0 48 1 4", b"Admit 0 48 1 4", b"admiT 0 48 1 4", b"dro", b"drop", b"drop ", b"drop0",
-    b"drop 0 0", b"Drop 0", b"drop -0", b"drop +0", b"repor", b"report", b"report 0", b"report 0 ",
-    b"report 0 1 2", b"report0 1", b"report 0 1.5", b"report 0 1e3", b"reports", b"reports ",
-    b"reports1", b"Reports 0", b"reports 129", b"reports 129 0 0", b"reports 4294967295",
-    b"reports 1 0", b"reports 2 0 0 0", b"reports 0 ", b"reports  0", b"reports 1 0  0",
-    b"reports -1", b"reports 1 0 x", b"owne", b"owner", b"owner ",
+    b"admit 0 48 1 ", b"admit 0 6 48 1 4 5", b"admit0 48 1 4", b"admit,0,48,1,4",
+    b"admits 0 48 1 4", b"ADMIT 0 48 1 4", b"Admit 0 48 1 4", b"admiT 0 48 1 4", b"dro", b"drop",
+    b"drop ", b"drop0", b"drop 0 0", b"Drop 0", b"drop -0", b"drop +0", b"repor", b"report",
+    b"report 0", b"report 0 ", b"report 0 1 2", b"report0 1", b"report 0 1.5", b"report 0 1e3",
+    b"reports", b"reports ", b"reports1", b"Reports 0", b"reports 129", b"reports 129 0 0",
+    b"reports 4294967295", b"reports 1 0", b"reports 2 0 0 0", b"reports 0 ", b"reports  0",
+    b"reports 1 0  0", b"reports -1", b"reports 1 0 x", b"owne", b"owner", b"owner ",
     b"owner9", b"owner 9 9", b"owner 0x9", b"owners 9", b"owner\t9", b"owner\xc2\xa09",
     b"ancho", b"anchor", b"anchor 0", b"anchor 0 1 2", b"anchor0 1", b"fres", b"fresh ",
     b"fresh 0", b"Fresh", b"freshfresh", b"sav", b"save ", b"save 2049", b"save 4294967295",
@@ -219,6 +242,7 @@ fn hostile(sheet: &mut Sheet, turn: usize) {
         }
     }
     lists_in_turn(sheet, turn);
+    every_range(sheet);
     sheet.say("save");
 
     // Whole scripts that are nearly nothing.

@@ -2,9 +2,10 @@
 
 use crate::lists;
 use crate::random::Random;
+use crate::ranges;
 use peer::image::image;
 use peer::reports::Report;
-use peer::schedule::{Connection, Schedule, BLOCK_US, GUARD_US};
+use peer::schedule::{Connection, Schedule, BLOCK_US, GUARD_US, LEAST_INTERVAL, SLOTS};
 
 /// Numbers at which a block counter, a sample or a handle may go wrong.
 const EDGES: [i64; 16] = [
@@ -26,8 +27,8 @@ const EDGES: [i64; 16] = [
     4_294_967_295,
 ];
 
-/// Intervals at which k changes or a refusal begins.
-const INTERVALS: [i64; 30] = [
+/// Intervals at and beside each 6 × 2^k, and at which a refusal begins.
+const INTERVALS: [i64; 38] = [
     0,
     1,
     5,
@@ -38,20 +39,28 @@ const INTERVALS: [i64; 30] = [
     13,
     23,
     24,
+    25,
     47,
     48,
+    49,
     95,
     96,
+    97,
     191,
     192,
+    193,
     383,
     384,
+    385,
     767,
     768,
+    769,
     1_535,
     1_536,
+    1_537,
     3_071,
     3_072,
+    3_073,
     3_199,
     3_200,
     3_201,
@@ -98,9 +107,39 @@ fn new_handle(random: &mut Random, schedule: &Schedule) -> i64 {
     }
 }
 
+/// The line of an admission by a range. Where the smallest is 6, it is either form.
+pub fn admission(
+    random: &mut Random,
+    handle: i64,
+    (smallest, largest): (i64, i64),
+    (floor, ceiling): (i64, i64),
+) -> String {
+    if smallest == LEAST_INTERVAL && random.chance(80) {
+        format!("admit {handle} {largest} {floor} {ceiling}")
+    } else {
+        format!("admit {handle} {smallest} {largest} {floor} {ceiling}")
+    }
+}
+
+/// The k of one interval, 0 if it is below 6.
+pub fn k_of(interval: i64) -> i64 {
+    (0..9).take_while(|k| SLOTS << (k + 1) <= interval).count() as i64
+}
+
+/// Mostly 6; otherwise up to this interval's 6 × 2^k, and now and then above it.
+fn smallest_for(random: &mut Random, largest: i64) -> i64 {
+    let at = SLOTS << k_of(largest);
+    match random.between(0, 19) {
+        0..=14 => LEAST_INTERVAL,
+        15 | 16 => at,
+        17 | 18 => random.between(LEAST_INTERVAL, at),
+        _ => random.between(LEAST_INTERVAL, largest),
+    }
+}
+
 /// Any interval with this k.
 fn interval_of(random: &mut Random, k: i64) -> i64 {
-    let low = 6 << k;
+    let low = SLOTS << k;
     random.between(low, (2 * low - 1).min(3_200))
 }
 
@@ -113,9 +152,10 @@ pub fn join(random: &mut Random, schedule: &Schedule) -> String {
         1 => random.between(6, 3_200),
         _ => interval_of(random, k),
     };
+    let smallest = smallest_for(random, interval);
     let floor = random.pick(&[1, 1, 1, 1, 1, 1, 2, 2, 3, 4]);
     let ceiling = floor + random.pick(&[0, 0, 1, 1, 2, 3, 4, 6]);
-    format!("admit {handle} {interval} {floor} {ceiling}")
+    admission(random, handle, (smallest, interval), (floor, ceiling))
 }
 
 /// An admission that takes much: any factor from 2^low to 2^high, up to a
@@ -125,13 +165,14 @@ pub fn crowd(random: &mut Random, schedule: &Schedule, low: i64, high: i64, shar
     let k = random.between(low, high);
     let factor = 1 << k;
     let interval = interval_of(random, k);
+    let smallest = smallest_for(random, interval);
     let floor = random.between(1, (factor * share / 100).max(1));
     let ceiling = match random.between(0, 3) {
         0 => floor,
         1 => factor,
         _ => random.between(floor, factor),
     };
-    format!("admit {handle} {interval} {floor} {ceiling}")
+    admission(random, handle, (smallest, interval), (floor, ceiling))
 }
 
 /// An admission with numbers at the edges of the checks.
@@ -141,12 +182,9 @@ pub fn edge_admission(random: &mut Random, schedule: &Schedule) -> String {
         6 | 7 => some_handle(random, schedule),
         _ => random.pick(&EDGES),
     };
-    let interval =
-        if random.chance(60) { random.pick(&INTERVALS) } else { random.between(0, 3_300) };
-    let mut factor = 1;
-    while factor < 512 && 12 * factor <= interval {
-        factor *= 2;
-    }
+    let smallest = if random.chance(50) { LEAST_INTERVAL } else { edge_interval(random) };
+    let largest = edge_interval(random);
+    let factor = 1 << k_of(largest);
     let floor =
         random.pick(&[0, 1, 1, 1, 2, factor - 1, factor, factor + 1, 65_537, 4_294_967_295]);
     let ceiling = random.pick(&[
@@ -165,7 +203,26 @@ pub fn edge_admission(random: &mut Random, schedule: &Schedule) -> String {
     ]);
     // The sums above may leave the numbers of the language by one.
     let within = |number: i64| number.clamp(0, 4_294_967_295);
-    format!("admit {handle} {interval} {} {}", within(floor), within(ceiling))
+    let share = (within(floor), within(ceiling));
+    admission(random, handle, (smallest, largest), share)
+}
+
+fn edge_interval(random: &mut Random) -> i64 {
+    if random.chance(60) {
+        random.pick(&INTERVALS)
+    } else {
+        random.between(0, 3_300)
+    }
+}
+
+/// An admission by a range of any kind.
+pub fn ranged(random: &mut Random, schedule: &Schedule) -> String {
+    let handle = new_handle(random, schedule);
+    let which = random.place(ranges::RANGES);
+    let (smallest, largest) = ranges::of_kind(random, which);
+    let passes = random.chance(70);
+    let share = ranges::share(random, 1 << k_of(largest), passes);
+    admission(random, handle, (smallest, largest), share)
 }
 
 pub fn report(random: &mut Random, schedule: &Schedule) -> String {
@@ -294,7 +351,7 @@ pub fn show(random: &mut Random, schedule: &Schedule) -> String {
 
 /// Any good line but `fresh` and `load`.
 pub fn any(random: &mut Random, schedule: &Schedule) -> String {
-    match random.between(0, 20) {
+    match random.between(0, 21) {
         0 | 1 => join(random, schedule),
         2 | 3 => crowd(random, schedule, 3, 9, 15),
         4 => edge_admission(random, schedule),
@@ -302,6 +359,7 @@ pub fn any(random: &mut Random, schedule: &Schedule) -> String {
         11 => leave(random, schedule),
         12..=16 => question(random, schedule),
         17 => lists::any(random, schedule),
+        18 => ranged(random, schedule),
         _ => show(random, schedule),
     }
 }

@@ -9,6 +9,7 @@ mod kinds;
 mod lines;
 mod lists;
 mod random;
+mod ranges;
 mod sheet;
 
 use std::path::Path;

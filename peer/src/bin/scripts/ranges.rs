@@ -1,0 +1,112 @@
+//! Ranges of intervals, smallest and largest, for admissions.
+
+use crate::random::Random;
+use peer::schedule::{GREATEST_INTERVAL, LEAST_INTERVAL, SLOTS};
+
+/// 6 × 2^k, or beside it.
+fn near(random: &mut Random, k: i64) -> i64 {
+    (SLOTS << k) + random.between(-1, 1)
+}
+
+/// A connection interval.
+fn inside(random: &mut Random) -> i64 {
+    random.between(LEAST_INTERVAL, GREATEST_INTERVAL)
+}
+
+fn below(random: &mut Random) -> i64 {
+    let any = random.between(0, LEAST_INTERVAL - 1);
+    random.pick(&[0, LEAST_INTERVAL - 1, LEAST_INTERVAL - 1, any])
+}
+
+fn above(random: &mut Random) -> i64 {
+    let least = GREATEST_INTERVAL + 1;
+    random.pick(&[least, least, 6_144, 65_542, 4_294_967_295])
+}
+
+/// How many kinds of ranges there are.
+pub const RANGES: usize = 10;
+
+pub fn of_kind(random: &mut Random, which: usize) -> (i64, i64) {
+    let k = random.between(0, 9);
+    // The next interval above 6 × 2^k, and the last before the next of its kind.
+    let next = (SLOTS << k) + 1;
+    let last = ((SLOTS << (k + 1)) - 1).min(GREATEST_INTERVAL);
+    match which % RANGES {
+        // Both ends at or beside one 6 × 2^k.
+        0 => (near(random, k), near(random, k)),
+        // At or beside two of them.
+        1 => {
+            let higher = random.between(k, 9);
+            (near(random, k), near(random, higher))
+        }
+        // All that is between two of them, or above the last.
+        2 => (next, last),
+        // A part of that.
+        3 => {
+            let smallest = random.between(next, last);
+            (smallest, random.between(smallest, last))
+        }
+        // One number.
+        4 => {
+            let one = near(random, k).max(LEAST_INTERVAL);
+            (one, one)
+        }
+        5 => (LEAST_INTERVAL, near(random, k).max(LEAST_INTERVAL)),
+        6 => (below(random), inside(random)),
+        7 => (inside(random), above(random)),
+        // Both outside.
+        8 => match random.between(0, 2) {
+            0 => (below(random), above(random)),
+            1 => (0, below(random)),
+            _ => (GREATEST_INTERVAL + 1, above(random)),
+        },
+        // In the wrong order.
+        _ => {
+            let largest = random.between(LEAST_INTERVAL, GREATEST_INTERVAL - 1);
+            let any = random.between(largest + 1, GREATEST_INTERVAL);
+            (random.pick(&[largest + 1, any, any]), largest)
+        }
+    }
+}
+
+/// A share that 5 lets pass with this factor, or one that it refuses: floor and ceiling.
+pub fn share(random: &mut Random, factor: i64, passes: bool) -> (i64, i64) {
+    if passes {
+        random.pick(&[(1, 1), (1, 1), (1, factor), (factor, factor)])
+    } else {
+        random.pick(&[(0, 0), (0, 1), (2, 1), (1, factor + 1), (factor + 1, factor + 1)])
+    }
+}
+
+#[cfg(test)]
+mod tests {
+    use super::*;
+    use crate::lines::k_of;
+    use peer::fault::Fault;
+    use peer::schedule::Schedule;
+
+    #[test]
+    fn every_kind_gets_its_answer() {
+        for round in 0..400 {
+            let mut random = Random::new(round, 0);
+            for which in 0..RANGES {
+                let (smallest, largest) = of_kind(&mut random, which);
+                let factor = 1 << k_of(largest);
+                let mut answer = |passes: bool| {
+                    let (floor, ceiling) = share(&mut random, factor, passes);
+                    let mut schedule = Schedule::fresh(Fault::None);
+                    schedule.admit(0, smallest, largest, floor, ceiling).map(|(f, a, _)| (f, a))
+                };
+                let (good, refused) = (answer(true), answer(false));
+                match which {
+                    2 | 3 => assert_eq!(good, Err(15), "{smallest} to {largest}"),
+                    5 => assert_eq!(good, Ok((factor, 0)), "{smallest} to {largest}"),
+                    6..=9 => assert_eq!(good, Err(4), "{smallest} to {largest}"),
+                    _ => {}
+                }
+                let expected = if good.is_ok() { Err(5) } else { good };
+                assert_eq!(refused, expected, "{smallest} to {largest}");
+            }
+        }
+    }
+}
