@@ -1,6 +1,6 @@
 -- The host's range, the k that it gives, and the refusals 4 and 15.
 use mathlib.Core.Path.{_≡_, refl, sym, ap, _∙_}
-use mathlib.Core.Bool.{Bool, true, false, not, _&&_, false≢true}
+use mathlib.Core.Bool.{Bool, true, false, not, _&&_, cond, false≢true}
 use mathlib.Core.Logic.{by-cases, _↔_, _⊎_, inl, inr, ⊎-elim}
 use mathlib.Core.List.{List, [], _∷_}
 use mathlib.Core.Option.{Option, none, some, Option·getD}
@@ -25,7 +25,7 @@ use Rattle.rules.specs.Below.{isNone}
 use Rattle.rules.specs.Obey.{singleFrom, obey}
 use Rattle.basics.proofs.BoolLaws.{both, is-false}
 use Rattle.basics.proofs.BelowLaws.{Greatest, greatest-some, greatest-none, greatest-is, greatest-is-none, is-none, largest-is-largest, largest-unique}
-use Rattle.calls.proofs.RefusalLaws.{Passed, refusing-at}
+use Rattle.calls.proofs.RefusalLaws.{Passed, decided-first, decided-skip, decided-after, refusing-at}
 
 -- ---- the bounds
 pub interval-bounds : (i : ℕ) → isInterval i ≡ true → (6 ≤ i) × (i ≤ 3200)
@@ -282,10 +282,41 @@ sheetChecks s h i f c =
     ∷ check NoOpenAnchor (noOpenAnchor (taken (s .connections)) (kOf i) f)
     ∷ []
 
-pub single-as-sheet : (s : Schedule) (h i f c : ℕ) → obey s (Admit h i f c) ≡ decided (sheetChecks s h i f c) (refusing s) (admitDone s h (kOf i) f c)
-unfolding obey admit admitChecks decided
-single-as-sheet s h i f c = go (isInterval i) refl
-  where
-    go : (v : Bool) → isInterval i ≡ v → admit s h singleFrom i f c ≡ decided (sheetChecks s h i f c) (refusing s) (admitDone s h (kOf i) f c)
-    go true e = rw (single-range i, from-least i e) refl
-    go false e = rw (single-range i, e) refl
+module _ (s : Schedule) (h i f c : ℕ) where
+  -- What is decided from 5 on, by k.
+  abbrev fromShare : ℕ → Outcome
+  fromShare k =
+      decided (check ShareWrong (shareWrong f c (2 ^ k)) ∷ check NoOpenAnchor (noOpenAnchor (taken (s .connections)) k f) ∷ []) (refusing s) (admitDone s h k f c)
+
+  -- From 4 on, by whether it passes.
+  abbrev fromRange : Bool → Outcome
+  fromRange v =
+      decided
+      (check IntervalOutside (not v)
+      ∷ check NoInterval (noInterval singleFrom i)
+      ∷ check ShareWrong (shareWrong f c (2 ^ kFor singleFrom i))
+      ∷ check NoOpenAnchor (noOpenAnchor (taken (s .connections)) (kFor singleFrom i) f)
+      ∷ [])
+      (refusing s) (admitDone s h (kFor singleFrom i) f c)
+
+  abbrev fromInterval : Bool → Outcome
+  fromInterval v =
+      decided
+      (check IntervalOutside (not v)
+      ∷ check ShareWrong (shareWrong f c (2 ^ kOf i))
+      ∷ check NoOpenAnchor (noOpenAnchor (taken (s .connections)) (kOf i) f)
+      ∷ [])
+      (refusing s) (admitDone s h (kOf i) f c)
+
+  -- Where it does, so does 15, and the range gives the interval's own k.
+  range-interval : (v : Bool) → isInterval i ≡ v → fromRange v ≡ fromInterval v
+  range-interval false e = decided-first _ (refusing s) _ (inl (refl, refl)) ∙ sym (decided-first _ (refusing s) _ (inl (refl, refl)))
+  range-interval true e =
+      let g = from-least i e in
+      decided-after _ _ (refusing s) _ _ _ (decided-skip _ _ (refusing s) _ (ap isNone g) ∙ ap fromShare (k-given singleFrom i (kOf i) g))
+
+  pub single-as-sheet : obey s (Admit h i f c) ≡ decided (sheetChecks s h i f c) (refusing s) (admitDone s h (kOf i) f c)
+  unfolding obey admit admitChecks
+  single-as-sheet =
+      ap (λ (o : Outcome). cond (aboveHandles h) (refusing s (number HandleAbove63)) (cond (isLive s h) (refusing s (number HandleLive)) o))
+      (ap fromRange (single-range i) ∙ range-interval (isInterval i) refl)

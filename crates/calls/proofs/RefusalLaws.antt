@@ -46,6 +46,16 @@ unfolding decided
 decided-first [] refuse done e = absurd e
 decided-first (c ∷ cs) refuse done e = ⊎-elim (λ w. rw (w .0) (ap refuse (w .1))) (λ w. rw (w .0) (decided-first cs refuse done (w .1))) e
 
+-- A check that passes may be left out; after the same check, the same is decided where the later checks decide the same.
+module _ {ℓ} {A : Type ℓ} (c : Check) (cs : List Check) (refuse : ℕ → A) (done : A) where
+  pub decided-skip : c .refuses ≡ false → decided (c ∷ cs) refuse done ≡ decided cs refuse done
+  unfolding decided
+  decided-skip e = rw e
+
+  pub decided-after : (ds : List Check) (done′ : A) → decided cs refuse done ≡ decided ds refuse done′ → decided (c ∷ cs) refuse done ≡ decided (c ∷ ds) refuse done′
+  unfolding decided
+  decided-after ds done′ e = ap (λ (later : A). cond (c .refuses) (refuse (number (c .why))) later) e
+
 -- What is decided goes through a function.
 pub decided-map {ℓ κ} : {A : Type ℓ} {B : Type κ} (g : A → B) (cs : List Check) (refuse : ℕ → A) (done : A) → g (decided cs refuse done) ≡ decided cs (λ n. g (refuse n)) (g done)
 unfolding decided
