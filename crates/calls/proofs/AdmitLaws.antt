@@ -31,7 +31,7 @@ use Rattle.blocks.proofs.MirrorLaws.{mirror-lt, mirror-mirror}
 use Rattle.rules.specs.Sound.{Numbers, soundConnections}
 use Rattle.blocks.proofs.SoundLaws.{class-free-ever, good-connections}
 use Rattle.blocks.proofs.ScheduleLaws.{others, others-at, set-good, set-zero, set-other, set-same, inside}
-use Rattle.calls.proofs.RefusalLaws.{Passed, decided-cases}
+use Rattle.calls.proofs.RefusalLaws.{Passed, passed-take, decided-cases}
 use Rattle.calls.proofs.RangeLaws.{k-given, k-deep}
 use Rattle.blocks.proofs.ClassLaws.{within-depth}
 
@@ -164,7 +164,7 @@ unfolding admit admitChecks
 admit-cases s h lo hi f c P no′ yes′ =
     decided-cases P (admitChecks s h lo hi f c) (refusing s) (admitDone s h (kFor lo hi) f c) (λ why. no′ (number why))
     (λ p.
-    let w = reached s h lo hi f c (p .0, (p .1 .0, (p .1 .1 .0, (p .1 .1 .1 .0, (p .1 .1 .1 .1 .0, tt))))) in
+    let w = reached s h lo hi f c (passed-take 5 (admitChecks s h lo hi f c) p) in
     let r = w .1 in
     let q = k-given lo hi (w .0) (r .given) in
     subst⁻¹ (λ (k : ℕ). P (admitDone s h k f c)) q

@@ -272,50 +272,32 @@ single-range i = go (isInterval i) refl
     go true e = let b = interval-bounds i e in range-is singleFrom i (omega arith) (omega arith) (omega arith) ∙ sym e
     go false e = is-false (isRange singleFrom i) (λ r. false≢true (sym e ∙ range-bounds singleFrom i r .1)) ∙ sym e
 
--- It is as the rule sheet has it: "Checks 1, 2, 4, 5, 6", 4 is of the interval, and k is the largest with 6 × 2^k not above it.
-abbrev sheetChecks : Schedule → ℕ → ℕ → ℕ → ℕ → List Check
-sheetChecks s h i f c =
-    check HandleAbove63 (aboveHandles h)
-    ∷ check HandleLive (isLive s h)
-    ∷ check IntervalOutside (not (isInterval i))
-    ∷ check ShareWrong (shareWrong f c (2 ^ kOf i))
-    ∷ check NoOpenAnchor (noOpenAnchor (taken (s .connections)) (kOf i) f)
-    ∷ []
-
 module _ (s : Schedule) (h i f c : ℕ) where
-  -- What is decided from 5 on, by k.
-  abbrev fromShare : ℕ → Outcome
-  fromShare k =
-      decided (check ShareWrong (shareWrong f c (2 ^ k)) ∷ check NoOpenAnchor (noOpenAnchor (taken (s .connections)) k f) ∷ []) (refusing s) (admitDone s h k f c)
+  -- The checks that follow k,
+  abbrev afterK : ℕ → List Check
+  afterK k = check ShareWrong (shareWrong f c (2 ^ k)) ∷ check NoOpenAnchor (noOpenAnchor (taken (s .connections)) k f) ∷ []
 
-  -- From 4 on, by whether it passes.
+  -- and what is decided from 4 on, v or not: by the range, and by the interval.
   abbrev fromRange : Bool → Outcome
   fromRange v =
-      decided
-      (check IntervalOutside (not v)
-      ∷ check NoInterval (noInterval singleFrom i)
-      ∷ check ShareWrong (shareWrong f c (2 ^ kFor singleFrom i))
-      ∷ check NoOpenAnchor (noOpenAnchor (taken (s .connections)) (kFor singleFrom i) f)
-      ∷ [])
-      (refusing s) (admitDone s h (kFor singleFrom i) f c)
+      decided (check IntervalOutside (not v) ∷ check NoInterval (noInterval singleFrom i) ∷ afterK (kFor singleFrom i)) (refusing s) (admitDone s h (kFor singleFrom i) f c)
 
   abbrev fromInterval : Bool → Outcome
-  fromInterval v =
-      decided
-      (check IntervalOutside (not v)
-      ∷ check ShareWrong (shareWrong f c (2 ^ kOf i))
-      ∷ check NoOpenAnchor (noOpenAnchor (taken (s .connections)) (kOf i) f)
-      ∷ [])
-      (refusing s) (admitDone s h (kOf i) f c)
+  fromInterval v = decided (check IntervalOutside (not v) ∷ afterK (kOf i)) (refusing s) (admitDone s h (kOf i) f c)
 
-  -- Where it does, so does 15, and the range gives the interval's own k.
+  -- It is the same: where 4 passes, so does 15, and the range gives the interval's own k.
   range-interval : (v : Bool) → isInterval i ≡ v → fromRange v ≡ fromInterval v
   range-interval false e = decided-first _ (refusing s) _ (inl (refl, refl)) ∙ sym (decided-first _ (refusing s) _ (inl (refl, refl)))
   range-interval true e =
       let g = from-least i e in
-      decided-after _ _ (refusing s) _ _ _ (decided-skip _ _ (refusing s) _ (ap isNone g) ∙ ap fromShare (k-given singleFrom i (kOf i) g))
+      decided-after _ _ (refusing s) _ _ _
+      (decided-skip _ _ (refusing s) _ (ap isNone g) ∙ ap (λ (k : ℕ). decided (afterK k) (refusing s) (admitDone s h k f c)) (k-given singleFrom i (kOf i) g))
 
-  pub single-as-sheet : obey s (Admit h i f c) ≡ decided (sheetChecks s h i f c) (refusing s) (admitDone s h (kOf i) f c)
+  -- So the command is as the rule sheet has it: "Checks 1, 2, 4, 5, 6", 4 is of the interval, and k is the largest with 6 × 2^k not above it.
+  abbrev sheetChecks : List Check
+  sheetChecks = check HandleAbove63 (aboveHandles h) ∷ check HandleLive (isLive s h) ∷ check IntervalOutside (not (isInterval i)) ∷ afterK (kOf i)
+
+  pub single-as-sheet : obey s (Admit h i f c) ≡ decided sheetChecks (refusing s) (admitDone s h (kOf i) f c)
   unfolding obey admit admitChecks
   single-as-sheet =
       ap (λ (o : Outcome). cond (aboveHandles h) (refusing s (number HandleAbove63)) (cond (isLive s h) (refusing s (number HandleLive)) o))

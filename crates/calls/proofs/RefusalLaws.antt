@@ -6,7 +6,7 @@ use mathlib.Core.Logic.{_↔_, _⊎_, inl, inr, ⊎-elim}
 use Prim.Native.Nat.{ℕ, zero, suc, _<_}
 use native.Mathlib.Omega.{arith}
 use lib.Dec.{eqb}
-use lib.ListN.{length, getD, take}
+use lib.ListN.{length, getD, take, drop}
 use borrow.Author.Tests.{eq-eqb}
 use Rattle.rules.specs.declared.Refusal.{Refusal}
 use Rattle.rules.specs.declared.Schedule.{Schedule}
@@ -18,6 +18,17 @@ use Rattle.basics.proofs.BoolLaws.{both}
 abbrev pub Passed : List Check → Type 0
 Passed [] = Unit {0}
 Passed (c ∷ cs) = (c .refuses ≡ false) × Passed cs
+
+-- Of a list that passes the first n pass; and it passes where they and the rest do.
+pub passed-take : (n : ℕ) (cs : List Check) → Passed cs → Passed (take n cs)
+passed-take zero cs p = tt
+passed-take (suc n) [] p = tt
+passed-take (suc n) (c ∷ cs) p = (p .0, passed-take n cs (p .1))
+
+pub passed-both : (n : ℕ) (cs : List Check) → Passed (take n cs) → Passed (drop n cs) → Passed cs
+passed-both zero cs p q = q
+passed-both (suc n) [] p q = tt
+passed-both (suc n) (c ∷ cs) p q = (p .0, passed-both n cs (p .1) q)
 
 -- A call is refused, or all its checks pass and it is carried out.
 pub decided-cases {ℓ κ} : {A : Type ℓ} (P : A → Type κ) (cs : List Check) (refuse : ℕ → A) (done : A) → ((why : Refusal) → P (refuse (number why))) → (Passed cs → P done) → P (decided cs refuse done)

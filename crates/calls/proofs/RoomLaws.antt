@@ -19,7 +19,7 @@ use Rattle.rules.specs.Handles.{isLive}
 use Rattle.rules.specs.Admit.{kIn, kFor, shareWrong, isOpen, firstOpen, admitChecks, anchorFor, admitDone, admit}
 use Rattle.basics.proofs.BoolLaws.{is-false}
 use Rattle.basics.proofs.BelowLaws.{is-none, is-some}
-use Rattle.calls.proofs.RefusalLaws.{decided-passed}
+use Rattle.calls.proofs.RefusalLaws.{passed-both, decided-passed}
 use Rattle.calls.proofs.RangeLaws.{k-given, k-deep, k-unique, admit-refused-at}
 use Rattle.blocks.proofs.MirrorLaws.{mirror-mirror}
 use Rattle.calls.proofs.AdmitLaws.{RunFreeEver, open-ever, none-open, open-none, Placeable, Reached, reached, passed, admit-cases, anchor-given, anchor-small, anchor-free, first-open}
@@ -70,10 +70,10 @@ module _ (s : Schedule) (good : Good s) (h lo hi f c k : ℕ) (r : Reached s h l
   unfolding admit admitChecks admitDone
   placed none e w = absurd (shut-none s good k (k-deep lo hi k (r .given)) f e (w .0) (w .1) (w .2))
   placed (some p) e w =
-      let t = passed s h lo hi f c k r in
+      let checks = admitChecks s h lo hi f c in
       let done =
-      decided-passed (admitChecks s h lo hi f c) (refusing s) (admitDone s h (kFor lo hi) f c)
-      (t .0, (t .1 .0, (t .1 .1 .0, (t .1 .1 .1 .0, (t .1 .1 .1 .1 .0, (rw (k-given lo hi k (r .given)) (ap isNone e), tt)))))) in
+      decided-passed checks (refusing s) (admitDone s h (kFor lo hi) f c)
+      (passed-both 5 checks (passed s h lo hi f c k r) (rw (k-given lo hi k (r .given)) (ap isNone e), tt)) in
       (2 ^ kFor lo hi, anchorFor s (kFor lo hi) f, f, ap (λ (o : Outcome). o .answer) done)
 
   pub room-exactly : Accepted (admit s h lo hi f c) ↔ ((A : ℕ) × (A < 2 ^ k) × RunFreeEver (s .connections) k f A)
