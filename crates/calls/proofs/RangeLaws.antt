@@ -277,7 +277,7 @@ module _ (s : Schedule) (h i f c : ℕ) where
   abbrev afterK : ℕ → List Check
   afterK k = check ShareWrong (shareWrong f c (2 ^ k)) ∷ check NoOpenAnchor (noOpenAnchor (taken (s .connections)) k f) ∷ []
 
-  -- and what is decided from 4 on, v or not: by the range, and by the interval.
+  -- and what is decided from 4 on, where v says whether it passes: by the range, and by the interval.
   abbrev fromRange : Bool → Outcome
   fromRange v =
       decided (check IntervalOutside (not v) ∷ check NoInterval (noInterval singleFrom i) ∷ afterK (kFor singleFrom i)) (refusing s) (admitDone s h (kFor singleFrom i) f c)

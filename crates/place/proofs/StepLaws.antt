@@ -77,6 +77,13 @@ told : (b : Bool) (x y z : Step) → z ≡ cond b x y → (z ≡ y → ⊥) → 
 told true x y z e n = refl
 told false x y z e n = absurd (n e)
 
+-- A step that passes or refuses: it passes exactly if its test fails.
+step-passed : (b : Bool) (n : ℕ) → passes ≡ cond b (refuses n) passes → b ≡ false
+step-passed b n e = tells b (refuses n) passes passes e (λ q. let z : _≡_ {A = ℕ} 0 1 = cc in absurd (omega arith)) .0
+
+step-refused : (b : Bool) (n : ℕ) → refuses n ≡ cond b (refuses n) passes → b ≡ true
+step-refused b n e = told b (refuses n) passes (refuses n) e (λ q. let z : _≡_ {A = ℕ} 0 1 = cc in absurd (omega arith))
+
 pub interval-told : (i k : ℕ) → gives k ≡ intervalStep i → (isInterval i ≡ true) × (k ≡ kOf i)
 unfolding intervalStep
 interval-told i k e =
@@ -94,7 +101,7 @@ interval-refused lo hi e =
 pub smallest-refused : (lo hi : ℕ) → refuses (number IntervalOutside) ≡ smallestStep lo hi → intervalOutside lo hi ≡ true
 unfolding smallestStep
 smallest-refused lo hi e =
-    let o = told (ltb lo 6 || ltb hi lo) (refuses (number IntervalOutside)) passes (refuses (number IntervalOutside)) e (λ q. let z : _≡_ {A = ℕ} 0 1 = cc in absurd (omega arith)) in
+    let o = step-refused (ltb lo 6 || ltb hi lo) (number IntervalOutside) e in
     ap not
     (is-false (isRange lo hi) (λ r.
     let b = range-bounds lo hi r in
@@ -105,31 +112,26 @@ smallest-refused lo hi e =
 pub smallest-told : (lo hi : ℕ) → isInterval hi ≡ true → passes ≡ smallestStep lo hi → intervalOutside lo hi ≡ false
 unfolding smallestStep
 smallest-told lo hi h e =
-    let o = tells (ltb lo 6 || ltb hi lo) (refuses (number IntervalOutside)) passes passes e (λ q. let z : _≡_ {A = ℕ} 0 1 = cc in absurd (omega arith)) .0 in
-    let p = neither (ltb lo 6) (ltb hi lo) o in
+    let p = neither (ltb lo 6) (ltb hi lo) (step-passed (ltb lo 6 || ltb hi lo) (number IntervalOutside) e) in
     ap not (range-is lo hi (ltb-false lo 6 (p .0)) (ltb-false hi lo (p .1)) (interval-bounds hi h .1))
 
 pub range-missed : (lo hi : ℕ) → isInterval hi ≡ true → refuses (number NoInterval) ≡ rangeStep lo (2 ^ kOf hi) → kIn lo hi ≡ none
 unfolding rangeStep
 range-missed lo hi h e =
-    k-missed lo hi h
-    (ltb-true (6 * 2 ^ kOf hi) lo
-    (told (ltb (6 * 2 ^ kOf hi) lo) (refuses (number NoInterval)) passes (refuses (number NoInterval)) e (λ q. let z : _≡_ {A = ℕ} 0 1 = cc in absurd (omega arith))))
+    k-missed lo hi h (ltb-true (6 * 2 ^ kOf hi) lo (step-refused (ltb (6 * 2 ^ kOf hi) lo) (number NoInterval) e))
 
 pub range-told : (lo hi : ℕ) → isInterval hi ≡ true → passes ≡ rangeStep lo (2 ^ kOf hi) → kIn lo hi ≡ some (kOf hi)
 unfolding rangeStep
 range-told lo hi h e =
-    k-held lo hi h
-    (ltb-false (6 * 2 ^ kOf hi) lo
-    (tells (ltb (6 * 2 ^ kOf hi) lo) (refuses (number NoInterval)) passes passes e (λ q. let z : _≡_ {A = ℕ} 0 1 = cc in absurd (omega arith)) .0))
+    k-held lo hi h (ltb-false (6 * 2 ^ kOf hi) lo (step-passed (ltb (6 * 2 ^ kOf hi) lo) (number NoInterval) e))
 
 pub share-told : (f c F : ℕ) → passes ≡ shareStep f c F → shareWrong f c F ≡ false
 unfolding shareStep
-share-told f c F e = tells (shareWrong f c F) (refuses (number ShareWrong)) passes passes e (λ q. let z : _≡_ {A = ℕ} 0 1 = cc in absurd (omega arith)) .0
+share-told f c F e = step-passed (shareWrong f c F) (number ShareWrong) e
 
 pub wrong-told : (f c F : ℕ) → refuses (number ShareWrong) ≡ shareStep f c F → shareWrong f c F ≡ true
 unfolding shareStep
-wrong-told f c F e = told (shareWrong f c F) (refuses (number ShareWrong)) passes (refuses (number ShareWrong)) e (λ q. let z : _≡_ {A = ℕ} 0 1 = cc in absurd (omega arith))
+wrong-told f c F e = step-refused (shareWrong f c F) (number ShareWrong) e
 
 pub place-told : (f : ℕ → Bool) (k n A : ℕ) → gives A ≡ placeStep f k n → (p : ℕ) × (firstOpen f k n ≡ some p) × (A ≡ mirrored k p)
 unfolding placeStep
