@@ -3,3 +3,4 @@ pub mod TableP
 pub mod Ranges
 pub mod WholeCase
 pub mod Readings
+pub mod MessageValues

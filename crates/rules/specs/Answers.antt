@@ -18,6 +18,11 @@ use Rattle.rules.specs.declared.Saving.{Saving}
 use Rattle.rules.specs.declared.Saving.the-variants.{Size, Refused as SavingRefused}
 use Rattle.rules.specs.declared.Loading.{Loading}
 use Rattle.rules.specs.declared.Loading.the-variants.{Count, Refused as LoadingRefused}
+use Rattle.rules.specs.declared.Message.{Message}
+use Rattle.rules.specs.declared.Reading.{Reading}
+use Rattle.rules.specs.declared.Reading.the-variants.{Is, Refused as ReadingRefused}
+use Rattle.rules.specs.declared.Writing.{Writing}
+use Rattle.rules.specs.declared.Writing.the-variants.{Size as WritingSize, Refused as WritingRefused}
 use Rattle.rules.specs.declared.Reply.{Reply}
 use Rattle.rules.specs.declared.Reply.the-variants.{Admission as ReplyAdmission, Dropping as ReplyDropping, Reporting as ReplyReporting, Ownership as ReplyOwnership, Distance as ReplyDistance}
 use Rattle.rules.specs.declared.Admitted.{Admitted}
@@ -40,6 +45,8 @@ pub data Answer : Type 0 where
   saved : ℕ → Answer
   loaded : ℕ → Answer
   reported : ℕ → Answer
+  message : Message → Answer
+  wrote : ℕ → Answer
 
 -- What a call leaves: its answer and the schedule afterwards.
 pub record Outcome : Type 0 where
@@ -52,6 +59,11 @@ pub record Listed : Type 0 where
   pub schedule : Schedule
   pub list : List ℕ
 
+-- What a call leaves that writes into a lent buffer: its answer and every byte of the buffer. No schedule is touched.
+pub record Written : Type 0 where
+  pub answer : Answer
+  pub buffer : List ℕ
+
 -- "A refusal returns its number only; the schedule and the buffers are as they were before the call."
 abbrev pub refusing : Schedule → ℕ → Outcome
 refusing s n = record { answer = refused n; schedule = s }
@@ -59,6 +71,10 @@ refusing s n = record { answer = refused n; schedule = s }
 -- A lent list is as it was, too.
 abbrev pub refusingList : Schedule → List ℕ → ℕ → Listed
 refusingList s list n = record { answer = refused n; schedule = s; list = list }
+
+-- So is a lent buffer.
+abbrev pub refusingBuffer : List ℕ → ℕ → Written
+refusingBuffer buffer n = record { answer = refused n; buffer = buffer }
 
 -- ---- the sheet's number and values for every case of every enum
 abbrev pub ofAdmission : Admission → Answer
@@ -95,6 +111,14 @@ ofSaving (SavingRefused r) = refused (number r)
 abbrev pub ofLoading : Loading → Answer
 ofLoading (Count n) = loaded n
 ofLoading (LoadingRefused r) = refused (number r)
+
+abbrev pub ofReading : Reading → Answer
+ofReading (Is m) = message m
+ofReading (ReadingRefused r) = refused (number r)
+
+abbrev pub ofWriting : Writing → Answer
+ofWriting (WritingSize n) = wrote n
+ofWriting (WritingRefused r) = refused (number r)
 
 abbrev pub ofReply : Reply → Answer
 ofReply (ReplyAdmission a) = ofAdmission a

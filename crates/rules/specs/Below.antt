@@ -43,9 +43,9 @@ unfolding greatest
 largest n test = Option·getD (greatest (suc n) test) 0
 
 -- Nothing was found.
-abbrev pub isNone : Option ℕ → Bool
+abbrev pub isNone {ℓ} : {A : Type ℓ} → Option A → Bool
 isNone none = true
-isNone (some n) = false
+isNone (some x) = false
 
 -- The list f 0, f 1, .. of n entries.
 unfoldable pub tabulate {ℓ} : {A : Type ℓ} → ℕ → (ℕ → A) → List A

@@ -3,6 +3,7 @@ use Prim.Native.Nat.{ℕ, zero, suc, _+_, _*_, _/_, _%_}
 use mathlib.Core.Bool.{Bool, true, false, _&&_}
 use mathlib.Core.List.{List, [], _∷_}
 use lib.Dec.{eqb}
+use lib.ListN.{take, drop}
 
 -- A number in w bytes, "little-endian": the lowest first.
 unfoldable pub little : ℕ → ℕ → List ℕ
@@ -13,6 +14,10 @@ little (suc w) n = n % 256 ∷ little w (n / 256)
 unfoldable pub littleNumber : List ℕ → ℕ
 littleNumber [] = 0
 littleNumber (b ∷ bs) = b + 256 * littleNumber bs
+
+-- The number in `width` bytes from a place on.
+abbrev pub numberAt : List ℕ → ℕ → ℕ → ℕ
+numberAt bytes at width = littleNumber (take width (drop at bytes))
 
 -- Two lists of numbers are the same.
 unfoldable pub same : List ℕ → List ℕ → Bool

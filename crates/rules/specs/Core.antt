@@ -38,6 +38,38 @@ pub record Subrating : Type 0 where
 abbrev pub subratedInterval : Subrating → ℕ
 subratedInterval r = r .factor * baseInterval
 
+-- ---- the ranges of a subrating's values, and of a handle
+-- A subrate factor is 1 to 500.
+abbrev pub leastFactor : ℕ
+leastFactor = 1
+
+abbrev pub largestFactor : ℕ
+largestFactor = 500
+
+-- The peripheral latency is 0 to 499,
+abbrev pub largestLatency : ℕ
+largestLatency = 499
+
+-- the continuation number 0 to 499,
+abbrev pub largestContinuation : ℕ
+largestContinuation = 499
+
+-- and the supervision timeout 10 to 3,200 units of 10 ms.
+abbrev pub leastTimeout : ℕ
+leastTimeout = 10
+
+abbrev pub largestTimeout : ℕ
+largestTimeout = 3200
+
+-- The factor times one more than the latency is at most 500.
+abbrev pub largestProduct : ℕ
+largestProduct = 500
+
+-- The handle by which host and controller name a connection is 0 to 3,839 (0EFF hexadecimal).
+abbrev pub largestHciHandle : ℕ
+largestHciHandle = 3839
+
+-- ---- subrated events
 -- The connection event counter has 16 bits: it wraps here. Below, counters run over all integers.
 abbrev pub eventCounter : ℕ
 eventCounter = 2 ^ 16

@@ -3,9 +3,8 @@ use Prim.Native.Nat.{ℕ}
 use mathlib.Core.Bool.{true, cond}
 use mathlib.Core.List.{List, [], _∷_, _++_}
 use lib.Dec.{eqb}
-use lib.ListN.{take, drop}
 use Rattle.rules.specs.declared.Connection.{Connection}
-use Rattle.rules.specs.Bytes.{littleNumber}
+use Rattle.rules.specs.Bytes.{littleNumber, numberAt}
 use Rattle.rules.specs.Records.{Piece}
 use Rattle.rules.specs.Form.{connectionKind, treeKind}
 
@@ -18,7 +17,7 @@ connectionsIn (r ∷ rs) =
 
 -- The number in `width` bytes of a record, from its payload's byte `start` on.
 abbrev pub fieldIn : Piece → ℕ → ℕ → ℕ
-fieldIn r start width = littleNumber (take width (drop start (r .payload)))
+fieldIn r start width = numberAt (r .payload) start width
 
 -- "handle (1), k (1), A (2), L (2), floor (2), ceiling (2), estimate (4)"
 unfoldable pub handleIn : Piece → ℕ

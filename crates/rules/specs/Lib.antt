@@ -30,6 +30,10 @@ pub mod Save
 pub mod Framing
 pub mod Fields
 pub mod Load
+pub mod Subrates
+pub mod Messages
+pub mod ReadMessage
+pub mod WriteMessage
 pub mod Text
 pub mod Decimal
 pub mod Split

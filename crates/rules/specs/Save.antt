@@ -6,14 +6,9 @@ use lib.ListN.{length}
 use Rattle.rules.specs.declared.Schedule.{Schedule}
 use Rattle.rules.specs.declared.Refusal.the-variants.{BufferShort}
 use Rattle.rules.specs.Refusals.{Check, check, decided}
-use Rattle.rules.specs.Answers.{Answer, refused, saved}
+use Rattle.rules.specs.Answers.{Written, refusingBuffer, saved}
 use Rattle.rules.specs.Lent.{over}
 use Rattle.rules.specs.Image.{image}
-
--- What a save leaves: its answer and every byte of the buffer. The schedule is not touched.
-pub record Written : Type 0 where
-  pub answer : Answer
-  pub buffer : List ℕ
 
 -- "Check 8": "buffer shorter than the image".
 unfoldable pub saveChecks : Schedule → List ℕ → List Check
@@ -29,4 +24,4 @@ saveDone s buffer =
 
 unfoldable pub save : Schedule → List ℕ → Written
 unfolding saveChecks saveDone decided
-save s buffer = decided (saveChecks s buffer) (λ n. record { answer = refused n; buffer = buffer }) (saveDone s buffer)
+save s buffer = decided (saveChecks s buffer) (refusingBuffer buffer) (saveDone s buffer)

@@ -29,6 +29,20 @@ pub const MOST_REPORTS: usize = 64;
 /// The largest k of a factor 2^k.
 pub const LARGEST_K: u8 = 9;
 
+/// The largest handle by which host and controller name a connection.
+pub const LARGEST_HCI_HANDLE: u16 = 3839;
+
+/// The least subrate factor.
+pub const LEAST_FACTOR: u16 = 1;
+
+/// The most that a subrate factor times one more than the latency is.
+pub const LARGEST_PRODUCT: u32 = 500;
+
+/// The supervision timeout's ends, in units of 10 ms.
+pub const LEAST_TIMEOUT: u16 = 10;
+
+pub const LARGEST_TIMEOUT: u16 = 3200;
+
 /// The depth of the tree; a connection's k may be bounded otherwise.
 pub const DEPTH: u32 = 9;
 
@@ -55,6 +69,9 @@ pub const TREE_SIZE: u32 = TREE_BYTES as u32;
 
 /// The most bytes of the line of an answer.
 pub const LONGEST_ANSWER: usize = 28;
+
+/// The most bytes of a message in words: its word, and a space and ten digits for each number.
+pub const LONGEST_MESSAGE: usize = 73;
 
 /// The most bytes that the command program takes.
 pub const MOST_INPUT: usize = 4096;
@@ -103,6 +120,36 @@ pub struct Report {
     pub sample: u32,
 }
 
+// ---- the subrate messages of HCI
+
+/// The values of a subrate command.
+#[repr(C)]
+pub struct Subrates {
+    pub min: u16,
+    pub max: u16,
+    pub latency: u16,
+    pub continuation: u16,
+    pub timeout: u16,
+}
+
+/// The values of the event that a connection's subrating has changed, or has not.
+#[repr(C)]
+pub struct SubrateChange {
+    pub status: u8,
+    pub handle: u16,
+    pub factor: u16,
+    pub latency: u16,
+    pub continuation: u16,
+    pub timeout: u16,
+}
+
+/// The default-subrate command, the subrate request command with its handle, or the subrate change event.
+pub enum Message {
+    Default(Subrates),
+    Request(u16, Subrates),
+    Change(SubrateChange),
+}
+
 // ---- the answers
 
 /// Why a call is refused: a case for each row of the refusal table.
@@ -122,6 +169,8 @@ pub enum Refusal {
     ReportsMany,
     ListShort,
     NoInterval,
+    MessageWrong,
+    ValuesForbidden,
 }
 
 /// What a largest interval gives: the largest k with 6 × 2^k not above it, or nothing.
@@ -212,6 +261,18 @@ pub enum Saving {
 
 pub enum Loading {
     Count(u8),
+    Refused(Refusal),
+}
+
+/// The message that bytes are.
+pub enum Reading {
+    Is(Message),
+    Refused(Refusal),
+}
+
+/// The size of a message that was written.
+pub enum Writing {
+    Size(usize),
     Refused(Refusal),
 }
 
