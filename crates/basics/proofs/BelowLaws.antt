@@ -82,13 +82,13 @@ tabulate-last zero f = refl
 tabulate-last {A = A} (suc n) f = ap {B = List A} (λ l. f 0 ∷ l) (tabulate-last n (λ i. f (suc i)))
 
 -- ---- found, or not
-pub is-none : (o : Option ℕ) → isNone o ≡ true → o ≡ none
+pub is-none {ℓ} : {A : Type ℓ} (o : Option A) → isNone o ≡ true → o ≡ none
 is-none none e = refl
-is-none (some n) e = absurd (false≢true e)
+is-none (some x) e = absurd (false≢true e)
 
-pub is-some : (o : Option ℕ) → isNone o ≡ false → (n : ℕ) × (o ≡ some n)
+pub is-some {ℓ} : {A : Type ℓ} (o : Option A) → isNone o ≡ false → (x : A) × (o ≡ some x)
 is-some none e = absurd (false≢true (sym e))
-is-some (some n) e = (n, refl)
+is-some (some x) e = (x, refl)
 
 -- What is found is q, where something is found, and nothing below or above q;
 found : (o : Option ℕ) (q : ℕ) → (o ≡ none → ⊥) → ((p : ℕ) → o ≡ some p → (p < q → ⊥) × (q < p → ⊥)) → o ≡ some q

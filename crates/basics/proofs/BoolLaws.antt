@@ -32,6 +32,10 @@ pub not-true-is-false : (a : Bool) → not a ≡ true → a ≡ false
 not-true-is-false true e = absurd (false≢true e)
 not-true-is-false false e = refl
 
+pub not-false-is-true : (a : Bool) → not a ≡ false → a ≡ true
+not-false-is-true true e = refl
+not-false-is-true false e = absurd (false≢true (sym e))
+
 pub is-false : (a : Bool) → (a ≡ true → ⊥) → a ≡ false
 is-false true f = absurd (f refl)
 is-false false f = refl

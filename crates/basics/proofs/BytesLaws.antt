@@ -3,15 +3,15 @@ use mathlib.Core.Path.{_≡_, refl, ap, ap₂, _∙_}
 use mathlib.Core.Bool.{Bool, true, false, _&&_, false≢true}
 use mathlib.Core.Logic.{_↔_}
 use mathlib.Core.List.{List, [], _∷_, _++_}
-use Prim.Native.Nat.{ℕ, zero, suc, _+_, _*_, _/_, _%_, _^_, _<_}
-use native.Mathlib.Nat.{pow-suc}
+use Prim.Native.Nat.{ℕ, zero, suc, _+_, _*_, _/_, _%_, _^_, _<_, _≤_}
+use native.Mathlib.Nat.{pow-suc, mul-comm, mul-assoc, lt-of-lt-of-le, pow-le-pow-right}
 use native.Mathlib.Numerals.{add-one}
 use native.Mathlib.Omega.{arith}
-use lib.Dec.{eqb}
-use lib.ListN.{length, getD, take, drop}
-use lib.Seq.{getD-drop, drop-cons}
+use lib.Dec.{eqb, lit≤}
+use lib.ListN.{length, getD, take, drop, length-take, length-drop}
+use lib.Seq.{getD-drop, drop-cons, drop-drop, take-add}
 use borrow.Author.Tests.{eq-eqb, ne-eqb, eqb-true}
-use Rattle.rules.specs.Bytes.{little, littleNumber, same}
+use Rattle.rules.specs.Bytes.{little, littleNumber, numberAt, same}
 use Rattle.basics.proofs.BoolLaws.{both}
 
 -- Every number of the list is a byte.
@@ -69,6 +69,38 @@ number-little (b ∷ bs) h =
     let low : (b + 256 * littleNumber bs) % 256 ≡ b = omega arith in
     let high : (b + 256 * littleNumber bs) / 256 ≡ littleNumber bs = omega arith in
     rw (low, high) (ap {B = List ℕ} (λ l. b ∷ l) (number-little bs (λ i. h (suc i))))
+
+-- Bytes behind others count so many times more.
+number-append : (bs ds : List ℕ) → littleNumber (bs ++ ds) ≡ littleNumber bs + 256 ^ length bs * littleNumber ds
+unfolding littleNumber
+number-append [] ds = omega arith
+number-append (b ∷ bs) ds =
+    let e : 256 ^ length bs * 256 * littleNumber ds ≡ 256 * (256 ^ length bs * littleNumber ds) = ap (λ (n : ℕ). n * littleNumber ds) (mul-comm (256 ^ length bs) 256) ∙ mul-assoc 256 (256 ^ length bs) (littleNumber ds) in
+    rw (pow-suc 256 (length bs), e) (omega (arith, number-append bs ds))
+
+-- ---- a number among bytes
+-- A number is that of its first v bytes and that of the others.
+pub number-split : (bs : List ℕ) (at v w : ℕ) → at + v ≤ length bs → numberAt bs at (v + w) ≡ numberAt bs at v + 256 ^ v * numberAt bs (at + v) w
+number-split bs at v w l =
+    let n : length (take v (drop at bs)) ≡ v = simp (length-take, length-drop) (omega arith) in
+    ap littleNumber (take-add v w (drop at bs))
+    ∙ number-append (take v (drop at bs)) (take w (drop v (drop at bs)))
+    ∙ ap₂ (λ (k : ℕ) (d : List ℕ). numberAt bs at v + 256 ^ k * littleNumber (take w d)) n (drop-drop v at bs)
+
+-- What w bytes say fits in as many.
+pub number-at-lt : (bs : List ℕ) (at w : ℕ) → AllBytes bs → numberAt bs at w < 256 ^ w
+number-at-lt bs at w h =
+    let d = take w (drop at bs) in
+    let few : length d ≤ w = omega (arith, length-take w (drop at bs)) in
+    lt-of-lt-of-le (number-lt d (bytes-take w (drop at bs) (bytes-drop at bs h))) (pow-le-pow-right (lit≤ tt) few)
+
+-- The number that w bytes say, written after the bytes before them, gives these bytes again.
+pub number-next : (bs : List ℕ) (at w : ℕ) → AllBytes bs → at + w ≤ length bs → {x : List ℕ} → x ≡ take at bs → x ++ little w (numberAt bs at w) ≡ take (at + w) bs
+number-next bs at w h l e =
+    let d = take w (drop at bs) in
+    let n : length d ≡ w = simp (length-take, length-drop) (omega arith) in
+    let f : little w (littleNumber d) ≡ d = rw n at (number-little d (bytes-take w (drop at bs) (bytes-drop at bs h))) in
+    rw (e, f, take-add at w bs)
 
 -- ---- the test says whether two lists are equal
 pub same-exactly : (xs ys : List ℕ) → (same xs ys ≡ true) ↔ (xs ≡ ys)

@@ -4,7 +4,7 @@ use mathlib.Core.List.{List, [], _∷_, _++_, append-nil, append-assoc}
 use Prim.Native.Nat.{ℕ, suc, _+_, _-_, _<_, _≤_}
 use native.Mathlib.Omega.{arith}
 use lib.ListN.{length, getD, drop, set, replicate, length-append, length-drop, length-replicate, replicate-append-replicate, List·getD-append}
-use lib.Seq.{drop-cons, drop-length, set-at, getD-append-add, getD-drop}
+use lib.Seq.{drop-cons, drop-length, set-at, getD-append-add, getD-drop, sets, sets-eq}
 use Rattle.rules.specs.Lent.{over}
 
 -- Each entry before the end of the new ones is new;
@@ -23,6 +23,12 @@ over-old new old i d l =
 -- and there are as many as before.
 pub over-length : (new old : List ℕ) → length new ≤ length old → length (over new old) ≡ length old
 over-length new old l = omega (arith, length-append new (drop (length new) old), length-drop (length new) old)
+
+-- So it is where they are stored one after the other from the start.
+pub over-stored : (new old : List ℕ) → length new ≤ length old → sets old 0 new ≡ over new old
+over-stored new old l =
+    let e : 0 + length new ≡ length new = omega arith in
+    rw e at (sets-eq new old 0 (omega arith))
 
 -- One more is written behind the new ones.
 pub over-next : (new old : List ℕ) (x : ℕ) → length new < length old → set (over new old) (length new) x ≡ over (new ++ (x ∷ [])) old

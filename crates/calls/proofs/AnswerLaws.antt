@@ -3,10 +3,11 @@ use mathlib.Core.Path.{_≡_, refl, sym, ap, _∙_}
 use mathlib.Core.Bool.{cond}
 use Prim.Native.Nat.{ℕ, _<_}
 use mathlib.Core.List.{List, [], _∷_}
+use native.Mathlib.Omega.{arith}
 use lib.Dec.{eqb, lit<}
 use lib.ListN.{getD}
 use Rattle.rules.specs.declared.Refusal.{Refusal}
-use Rattle.rules.specs.declared.Refusal.the-variants.{HandleAbove63, HandleLive, HandleNotLive, IntervalOutside, ShareWrong, NoOpenAnchor, SampleAboveRun, BufferShort, RecordsWrong, NumbersUnsound, BlockOwnedTwice, TreeDiffers, ReportsMany, ListShort, NoInterval}
+use Rattle.rules.specs.declared.Refusal.the-variants.{HandleAbove63, HandleLive, HandleNotLive, IntervalOutside, ShareWrong, NoOpenAnchor, SampleAboveRun, BufferShort, RecordsWrong, NumbersUnsound, BlockOwnedTwice, TreeDiffers, ReportsMany, ListShort, NoInterval, MessageWrong, ValuesForbidden}
 use Rattle.rules.specs.declared.Admission.{Admission}
 use Rattle.rules.specs.declared.Admission.the-variants.{Placed, Refused as AdmissionRefused}
 use Rattle.rules.specs.declared.Dropping.{Dropping}
@@ -23,13 +24,20 @@ use Rattle.rules.specs.declared.Saving.{Saving}
 use Rattle.rules.specs.declared.Saving.the-variants.{Size, Refused as SavingRefused}
 use Rattle.rules.specs.declared.Loading.{Loading}
 use Rattle.rules.specs.declared.Loading.the-variants.{Count, Refused as LoadingRefused}
+use Rattle.rules.specs.declared.Message.{Message}
+use Rattle.rules.specs.declared.Reading.{Reading}
+use Rattle.rules.specs.declared.Reading.the-variants.{Is, Refused as ReadingRefused}
+use Rattle.rules.specs.declared.Writing.{Writing}
+use Rattle.rules.specs.declared.Writing.the-variants.{Size as WritingSize, Refused as WritingRefused}
 use Rattle.rules.specs.declared.Admitted.{Admitted}
 use Rattle.rules.specs.declared.Dropped.{Dropped}
 use Rattle.rules.specs.declared.Reported.{Reported}
 use Rattle.rules.specs.declared.ReportedAll.{ReportedAll}
 use Rattle.rules.specs.declared.Loaded.{Loaded}
 use Rattle.rules.specs.Refusals.{number}
-use Rattle.rules.specs.Answers.{Answer, Outcome, Listed, refused, ok, dropped, kept, grown, shrunk, tight, owner, idle, slots, saved, loaded, reported, ofAdmission, ofDropping, ofReporting, ofReportingAll, ofOwnership, ofDistance, ofSaving, ofLoading, ofAdmitted, ofDropped, ofReported, ofReportedAll, ofLoaded}
+use Rattle.rules.specs.Messages.{valuesOf}
+use Rattle.rules.specs.Answers.{Answer, Outcome, Listed, refused, ok, dropped, kept, grown, shrunk, tight, owner, idle, slots, saved, loaded, reported, message, wrote, ofAdmission, ofDropping, ofReporting, ofReportingAll, ofOwnership, ofDistance, ofSaving, ofLoading, ofReading, ofWriting, ofAdmitted, ofDropped, ofReported, ofReportedAll, ofLoaded}
+use Rattle.calls.proofs.RefusalLaws.{refused-same}
 
 -- A function that can be undone takes no two values to one.
 undone : {A B : Type 0} (f : A → B) (g : B → A) → ((a : A) → g (f a) ≡ a) → {a b : A} → f a ≡ f b → a ≡ b
@@ -44,7 +52,8 @@ refusalOf n =
     (or IntervalOutside (or ShareWrong (or NoOpenAnchor
     (or SampleAboveRun (or BufferShort (or RecordsWrong
     (or NumbersUnsound (or BlockOwnedTwice (or TreeDiffers
-    (or ReportsMany (or ListShort NoInterval)))))))))))))
+    (or ReportsMany (or ListShort (or NoInterval
+    (or MessageWrong ValuesForbidden)))))))))))))))
 
 refusal-back : (r : Refusal) → refusalOf (number r) ≡ r
 unfolding refusalOf
@@ -63,6 +72,8 @@ refusal-back TreeDiffers = refl
 refusal-back ReportsMany = refl
 refusal-back ListShort = refl
 refusal-back NoInterval = refl
+refusal-back MessageWrong = refl
+refusal-back ValuesForbidden = refl
 
 pub number-injective : (a b : Refusal) → number a ≡ number b → a ≡ b
 number-injective a b e = undone number refusalOf refusal-back e
@@ -84,6 +95,8 @@ number-small TreeDiffers = lit< tt
 number-small ReportsMany = lit< tt
 number-small ListShort = lit< tt
 number-small NoInterval = lit< tt
+number-small MessageWrong = lit< tt
+number-small ValuesForbidden = lit< tt
 
 -- ---- the answers: a number for each of the sheet's words, and the values beside it
 word : Answer → ℕ
@@ -100,6 +113,8 @@ word (slots n) = 9
 word (saved n) = 10
 word (loaded n) = 11
 word (reported n) = 12
+word (message m) = 13
+word (wrote n) = 14
 
 unfoldable pub values : Answer → List ℕ
 values (refused n) = n ∷ []
@@ -115,6 +130,8 @@ values (slots n) = n ∷ []
 values (saved n) = n ∷ []
 values (loaded n) = n ∷ []
 values (reported n) = n ∷ []
+values (message m) = valuesOf m
+values (wrote n) = n ∷ []
 
 value : Answer → ℕ → ℕ
 unfolding values
@@ -201,6 +218,15 @@ unfolding loadingOf
 loading-back (Count n) = refl
 loading-back (LoadingRefused r) = ap LoadingRefused (refusal-back r)
 
+writingOf : Answer → Writing
+unfolding word value refusalOf
+writingOf a = by-word a (WritingRefused (refusalOf (value a 0))) (WritingSize (value a 0))
+
+writing-back : (a : Writing) → writingOf (ofWriting a) ≡ a
+unfolding writingOf
+writing-back (WritingSize n) = refl
+writing-back (WritingRefused r) = ap WritingRefused (refusal-back r)
+
 -- ---- so what a call's statement determines, it determines whole
 pub ownership-injective : (a b : Ownership) → ofOwnership a ≡ ofOwnership b → a ≡ b
 ownership-injective a b e = undone ofOwnership ownershipOf ownership-back e
@@ -213,6 +239,19 @@ distance-injective a b e = undone ofDistance distanceOf distance-back e
 
 pub saving-injective : (a b : Saving) → ofSaving a ≡ ofSaving b → a ≡ b
 saving-injective a b e = undone ofSaving savingOf saving-back e
+
+-- A message is its own value.
+pub reading-injective : (a b : Reading) → ofReading a ≡ ofReading b → a ≡ b
+reading-injective (Is m) (Is n) e = ap Is (same e)
+  where
+    same : {x y : Message} → message x ≡ message y → x ≡ y
+    same q = cc
+reading-injective (Is m) (ReadingRefused r) e = let z : _≡_ {A = ℕ} 0 1 = cc in absurd (omega arith)
+reading-injective (ReadingRefused r) (Is m) e = let z : _≡_ {A = ℕ} 0 1 = cc in absurd (omega arith)
+reading-injective (ReadingRefused r) (ReadingRefused t) e = ap ReadingRefused (number-injective r t (refused-same e))
+
+pub writing-injective : (a b : Writing) → ofWriting a ≡ ofWriting b → a ≡ b
+writing-injective a b e = undone ofWriting writingOf writing-back e
 
 pub admitted-injective : (a b : Admitted) → ofAdmitted a ≡ ofAdmitted b → a ≡ b
 admitted-injective a b e =

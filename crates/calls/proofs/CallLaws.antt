@@ -10,7 +10,7 @@ use Rattle.rules.specs.declared.Connection.{Connection}
 use Rattle.rules.specs.Ownership.{taken}
 use Rattle.rules.specs.Handles.{connection}
 use Rattle.rules.specs.Good.{Good, FreeSlotsZero}
-use Rattle.rules.specs.Answers.{Answer, Outcome, refused, refusing}
+use Rattle.rules.specs.Answers.{Answer, Outcome, Written, refused, refusing, refusingBuffer}
 use Rattle.rules.specs.Refusals.{number, Check, decided}
 use Rattle.rules.specs.Admit.{kFor, admitChecks, admitDone, admit}
 use Rattle.rules.specs.Drop.{dropChecks, dropDone, dropHandle}
@@ -55,6 +55,13 @@ tabled cs done t = decided-cases Tabled cs refused done (λ why n e. (why, sym (
 
 pub tabled-outcome : (cs : List Check) (s : Schedule) (done : Outcome) → Tabled (done .answer) → Tabled (decided cs (refusing s) done .answer)
 tabled-outcome cs s done t = subst⁻¹ Tabled (decided-map (λ (o : Outcome). o .answer) cs (refusing s) done) (tabled cs (done .answer) t)
+
+-- Where a call writes into a lent buffer, a refusal has a number of the table, and no byte of the buffer has changed.
+pub refusal-keeps-buffer : (cs : List Check) (buffer : List ℕ) (done : Written) → ((n : ℕ) → done .answer ≡ refused n → ⊥)
+    → (n : ℕ) → decided cs (refusingBuffer buffer) done .answer ≡ refused n → InTable n × (decided cs (refusingBuffer buffer) done .buffer ≡ buffer)
+refusal-keeps-buffer cs buffer done never n =
+    decided-cases (λ (w : Written). w .answer ≡ refused n → InTable n × (w .buffer ≡ buffer)) cs (refusingBuffer buffer) done
+    (λ why e. ((why, sym (refused-same e)), refl)) (λ p e. absurd (never n e))
 
 -- What is done once the checks pass is no refusal.
 pub refusal-in-table : (s : Schedule) {o : Outcome} → Leaves s o → Tabled (o .answer)

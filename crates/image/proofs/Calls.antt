@@ -6,9 +6,8 @@ use native.Mathlib.Omega.{arith}
 use Rattle.rules.specs.declared.Schedule.{Schedule}
 use Rattle.rules.specs.declared.Saving.{Saving}
 use Rattle.rules.specs.declared.Loaded.{Loaded}
-use Rattle.rules.specs.Answers.{Outcome, refused, saved, ofSaving, ofLoaded}
+use Rattle.rules.specs.Answers.{Outcome, Written, refused, saved, ofSaving, ofLoaded}
 use Rattle.rules.specs.Good.{Good}
-use Rattle.rules.specs.Save.{Written}
 use Rattle.calls.proofs.AnswerLaws.{saving-injective, loaded-injective}
 use Rattle.images.proofs.ImageLaws.{image-bounds}
 use Rattle.images.proofs.SaveLaws.{save-size}

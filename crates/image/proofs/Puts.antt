@@ -17,8 +17,8 @@ use Rattle.rules.specs.Form.{countKind, countSize, connectionKind, connectionSi
 use Rattle.rules.specs.Image.{countPiece, connectionPiece, connectionPieces, treePiece, pieces, image}
 use Rattle.rules.specs.Good.{Good, treeFor}
 use Rattle.rules.specs.Refusals.{number}
-use Rattle.rules.specs.Answers.{refused, saved}
-use Rattle.rules.specs.Save.{Written, save}
+use Rattle.rules.specs.Answers.{Written, refused, saved}
+use Rattle.rules.specs.Save.{save}
 use Rattle.calls.proofs.EachLaws.{each-count}
 use Rattle.images.proofs.PieceLaws.{record-length, joined-append}
 use Rattle.basics.proofs.StoreLaws.{put-after}

@@ -9,11 +9,11 @@ use Rattle.rules.specs.declared.Schedule.{Schedule}
 use Rattle.rules.specs.declared.Saving.{Saving}
 use Rattle.rules.specs.declared.Loaded.{Loaded}
 use Rattle.rules.specs.Good.{Good}
-use Rattle.rules.specs.Answers.{ofSaving, ofLoaded}
+use Rattle.rules.specs.Answers.{Written, ofSaving, ofLoaded}
 use Rattle.rules.specs.Records.{Piece, joined}
 use Rattle.rules.specs.Form.{treeKind}
 use Rattle.rules.specs.Image.{connectionPieces}
-use Rattle.rules.specs.Save.{Written, save}
+use Rattle.rules.specs.Save.{save}
 use Rattle.rules.specs.Load.{load}
 
 -- The record of a tree's bytes.

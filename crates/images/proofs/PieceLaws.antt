@@ -6,7 +6,7 @@ use Prim.Native.Nat.{ℕ, zero, suc, _+_, _^_, _<_, _≤_}
 use native.Mathlib.Omega.{arith}
 use lib.Pow.{pow-mono}
 use lib.ListN.{length, getD, take, drop, length-append, length-take, length-drop, take-append-drop}
-use lib.Seq.{take-at, drop-at, take-all, take-add, take-suc, drop-cons, drop-drop, drop-append-seam, take-append-le, drop-append-le}
+use lib.Seq.{take-at, drop-at, take-all, take-suc, drop-cons, drop-drop, drop-append-seam, take-append-le, drop-append-le}
 use Rattle.rules.specs.declared.Connection.{Connection}
 use Rattle.rules.specs.Bytes.{little, littleNumber}
 use Rattle.rules.specs.Records.{Piece, bytesOf, joined, begin, piecesIn, piecesOf}
@@ -14,7 +14,7 @@ use Rattle.rules.specs.Form.{connectionKind, connectionSize}
 use Rattle.rules.specs.Image.{connectionPiece}
 use Rattle.rules.specs.Fields.{fieldIn, handleIn, connectionIn}
 use Rattle.rules.specs.Sound.{Numbers}
-use Rattle.basics.proofs.BytesLaws.{AllBytes, bytes-take, bytes-drop, little-number, number-little}
+use Rattle.basics.proofs.BytesLaws.{AllBytes, bytes-take, bytes-drop, little-number, number-at-lt, number-next}
 use Rattle.blocks.proofs.ClassLaws.{within-depth}
 
 -- Record i, from 0 on.
@@ -114,20 +114,13 @@ pieces-in-bytes (suc n) (b ∷ bs) h =
     let size = littleNumber (take 2 (b ∷ bs)) in
     (bytes-take size (drop 4 (b ∷ bs)) (bytes-drop 4 (b ∷ bs) h), pieces-in-bytes n (drop (4 + size) (b ∷ bs)) (bytes-drop (4 + size) (b ∷ bs) h))
 
--- Two bytes say less than 2^16.
-two-small : (d : List ℕ) → AllBytes d → littleNumber (take 2 d) < 65536
-unfolding littleNumber
-two-small [] h = omega arith
-two-small (b ∷ []) h = omega (arith, h 0)
-two-small (b ∷ c ∷ d) h = omega (arith, h 0, h 1)
-
 pieces-in-small : (n : ℕ) (bytes : List ℕ) → AllBytes bytes → Each (λ r. length (r .payload) < 65536) (piecesIn n bytes)
 unfolding piecesIn
 pieces-in-small zero bytes h = tt
 pieces-in-small (suc n) [] h = tt
 pieces-in-small (suc n) (b ∷ bs) h =
     let size = littleNumber (take 2 (b ∷ bs)) in
-    (simp length-take (omega (arith, two-small (b ∷ bs) h)), pieces-in-small n (drop (4 + size) (b ∷ bs)) (bytes-drop (4 + size) (b ∷ bs) h))
+    (simp length-take (omega (arith, number-at-lt (b ∷ bs) 0 2 h)), pieces-in-small n (drop (4 + size) (b ∷ bs)) (bytes-drop (4 + size) (b ∷ bs) h))
 
 -- The size of each record of bytes fits in two,
 pub pieces-small : (bytes : List ℕ) → AllBytes bytes → Each (λ r. length (r .payload) < 65536) (piecesOf bytes)
@@ -173,21 +166,13 @@ connection-read h c l n live = (
       },
 )
 
--- The number that w bytes say, written after the bytes before them, gives these bytes again.
-field-written : (p : List ℕ) (s w : ℕ) → AllBytes p → s + w ≤ length p → take s p ++ little w (littleNumber (take w (drop s p))) ≡ take (s + w) p
-field-written p s w h l =
-    let e : length (take w (drop s p)) ≡ w = simp (length-take, length-drop) (omega arith) in
-    let f : little w (littleNumber (take w (drop s p))) ≡ take w (drop s p) =
-    rw e at (number-little (take w (drop s p)) (bytes-take w (drop s p) (bytes-drop s p h))) in
-    rw (f, take-add s w p)
-
 -- The bytes of a connection's record are those of the connection that they say.
 pub connection-written : (r : Piece) → r .kind ≡ connectionKind → length (r .payload) ≡ connectionSize → AllBytes (r .payload) → connectionPiece (handleIn r) (connectionIn r) ≡ r
 unfolding connectionPiece handleIn connectionIn
 connection-written r q l h = λ i. record { kind = sym q i; payload = whole i }
   where
     then : (s w : ℕ) → s + w ≤ connectionSize → {x : List ℕ} → x ≡ take s (r .payload) → x ++ little w (fieldIn r s w) ≡ take (s + w) (r .payload)
-    then s w g e = rw e (field-written (r .payload) s w h (omega arith))
+    then s w g e = number-next (r .payload) s w h (omega arith) e
 
     whole : connectionPiece (handleIn r) (connectionIn r) .payload ≡ r .payload
     whole =

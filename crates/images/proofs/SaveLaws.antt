@@ -6,18 +6,19 @@ use mathlib.Core.List.{List, [], _∷_, _++_, append-nil}
 use Prim.Native.Nat.{ℕ, _+_, _<_, _≤_}
 use native.Mathlib.Omega.{arith}
 use lib.ListN.{length, take, drop, length-append}
-use lib.Seq.{sets, sets-eq}
+use lib.Seq.{sets}
 use borrow.Author.Tests.{lt-ltb, le-ltb}
 use Rattle.rules.specs.declared.Connection.{Connection}
 use Rattle.rules.specs.declared.Schedule.{Schedule}
 use Rattle.rules.specs.declared.Refusal.the-variants.{BufferShort}
 use Rattle.rules.specs.Ownership.{at}
 use Rattle.rules.specs.Refusals.{number}
-use Rattle.rules.specs.Answers.{refused, saved}
+use Rattle.rules.specs.Answers.{Written, refusingBuffer, refused, saved}
 use Rattle.rules.specs.Lent.{over}
 use Rattle.rules.specs.Records.{bytesOf, joined}
 use Rattle.rules.specs.Image.{connectionPiece, connectionPieces, image}
-use Rattle.rules.specs.Save.{Written, saveChecks, saveDone, save}
+use Rattle.rules.specs.Save.{saveChecks, saveDone, save}
+use Rattle.basics.proofs.LentLaws.{over-stored}
 use Rattle.calls.proofs.RefusalLaws.{decided-first, decided-passed, decided-cases}
 use Rattle.calls.proofs.EachLaws.{each-live, each-dead, each-first}
 use Rattle.images.proofs.PieceLaws.{joined-append}
@@ -43,22 +44,16 @@ joined-most cs h =
     omega (arith, ap {B = ℕ} length (ap joined (each-first connectionPiece cs h) ∙ joined-append first later) ∙ length-append (joined first) (joined later))
 
 -- ---- the exits of a save
--- What is stored from the buffer's start, and the rest.
-from-start : (xs buffer : List ℕ) → length xs ≤ length buffer → sets buffer 0 xs ≡ over xs buffer
-from-start xs buffer l =
-    let e : 0 + length xs ≡ length xs = omega arith in
-    rw e at (sets-eq xs buffer 0 (omega arith))
-
 pub save-short : (s : Schedule) (buffer : List ℕ) → length buffer < length (image s) → _≡_ {A = Written} (record { answer = refused (number BufferShort); buffer = buffer }) (save s buffer)
 unfolding save saveChecks
-save-short s buffer l = sym (decided-first (saveChecks s buffer) (λ n. record { answer = refused n; buffer = buffer }) (saveDone s buffer) (inl (lt-ltb (length buffer) (length (image s)) l, refl)))
+save-short s buffer l = sym (decided-first (saveChecks s buffer) (refusingBuffer buffer) (saveDone s buffer) (inl (lt-ltb (length buffer) (length (image s)) l, refl)))
 
 pub save-written : (s : Schedule) (buffer : List ℕ) → length (image s) ≤ length buffer
     → _≡_ {A = Written} (record { answer = saved (length (image s)); buffer = sets buffer 0 (image s) }) (save s buffer)
 unfolding save saveChecks saveDone
 save-written s buffer l =
-    ap (λ (b : List ℕ). record { answer = saved (length (image s)); buffer = b }) (from-start (image s) buffer l)
-    ∙ sym (decided-passed (saveChecks s buffer) (λ n. record { answer = refused n; buffer = buffer }) (saveDone s buffer) (le-ltb (length buffer) (length (image s)) l, tt))
+    ap (λ (b : List ℕ). record { answer = saved (length (image s)); buffer = b }) (over-stored (image s) buffer l)
+    ∙ sym (decided-passed (saveChecks s buffer) (refusingBuffer buffer) (saveDone s buffer) (le-ltb (length buffer) (length (image s)) l, tt))
 
 -- A save of a schedule whose image is known, into a buffer that holds it.
 pub save-whole : (s : Schedule) (buffer bytes : List ℕ) → image s ≡ bytes → length bytes ≤ length buffer
@@ -67,13 +62,13 @@ unfolding saveDone
 save-whole s buffer bytes e l =
     sym (save-written s buffer (omega (arith, ap (λ (x : List ℕ). length x) e)))
     ∙ ap (λ (x : List ℕ). record { answer = saved (length x); buffer = sets buffer 0 x }) e
-    ∙ ap (λ (b : List ℕ). record { answer = saved (length bytes); buffer = b }) (from-start bytes buffer l)
+    ∙ ap (λ (b : List ℕ). record { answer = saved (length bytes); buffer = b }) (over-stored bytes buffer l)
 
 -- The size that a save answers is that of the image.
 pub save-size : (s : Schedule) (buffer : List ℕ) (n : ℕ) → save s buffer .answer ≡ saved n → n ≡ length (image s)
 unfolding save saveDone
 save-size s buffer n =
-    decided-cases (λ (w : Written). w .answer ≡ saved n → n ≡ length (image s)) (saveChecks s buffer) (λ m. record { answer = refused m; buffer = buffer }) (saveDone s buffer)
+    decided-cases (λ (w : Written). w .answer ≡ saved n → n ≡ length (image s)) (saveChecks s buffer) (refusingBuffer buffer) (saveDone s buffer)
     (λ m e. let z : _≡_ {A = ℕ} 0 1 = cc in absurd (omega arith))
     (λ d e. same e)
   where
