@@ -1,0 +1,2 @@
+-- Which numbers fit their fields.
+pub mod Fitting
