@@ -3,6 +3,8 @@ use Prim.Native.Nat.{ℕ, _+_, _-_, _^_, _<_, _≤_}
 use mathlib.Core.Path.{_≡_}
 use mathlib.Core.List.{List, [], _∷_, _++_}
 use Rattle.rules.specs.declared.Saving.{Saving}
+use Rattle.rules.specs.declared.Writing.{Writing}
+use Rattle.rules.specs.declared.Writing.the-variants.{Size}
 use Rattle.rules.specs.Answers.{Answer, saved, ofSaving}
 use Rattle.rules.specs.Text.{byte}
 use Rattle.rules.specs.Words.{wordsOf, longestAnswer}
@@ -24,3 +26,6 @@ pub record PutsAnswer (entry : List ℕ) (at : ℕ) (answer : Answer) (exit : Li
 -- A size, if there is one, that can be printed.
 abbrev pub SizeFits : Saving → Type 0
 SizeFits answer = (n : ℕ) → ofSaving answer ≡ saved n → n < 2 ^ 32
+
+abbrev pub WritingFits : Writing → Type 0
+WritingFits answer = (n : ℕ) → answer ≡ Size n → n < 2 ^ 32

@@ -1,22 +1,56 @@
 //! The words of an answer, written at a place, and its line.
 ghost use Prim.Native.Nat.{_+_, _≤_};
 ghost use lib.ListN.{length};
-ghost use Rattle.rules.specs.Answers.{ok, ofAdmission, ofDropping, ofReporting, ofReportingAll, ofOwnership, ofDistance, ofSaving, ofLoading, ofReply};
-ghost use Rattle.rules.specs.Words.{longestAnswer};
-ghost use Rattle.answer.specs.Promises.{PutsWords, PutsAnswer, SizeFits};
+ghost use Rattle.rules.specs.Answers.{ok, message as messageAs, ofAdmission, ofDropping, ofReporting, ofReportingAll, ofOwnership, ofDistance, ofSaving, ofLoading, ofReading, ofWriting, ofReply};
+ghost use mathlib.Core.Path.{_≡_};
+ghost use Rattle.rules.specs.Messages.{subrateValues, changeValues};
+ghost use Rattle.rules.specs.Words.{wordsOf, longestAnswer, longestMessage};
+ghost use Rattle.text.specs.Promises.{PutsWithin};
+ghost use Rattle.answer.specs.Promises.{PutsWords, PutsAnswer, SizeFits, WritingFits};
 use rules::Admission;
 use rules::Distance;
 use rules::Dropping;
 use rules::Loading;
+use rules::Message;
 use rules::Ownership;
+use rules::Reading;
 use rules::Reply;
 use rules::Reporting;
 use rules::ReportingAll;
 use rules::Saving;
+use rules::SubrateChange;
+use rules::Subrates;
+use rules::Writing;
 use text::put_count;
 use text::put_refused;
+use text::put_row;
 use text::put_spaced;
 use text::put_word;
+
+// The numbers of a command, and those of an event behind its status.
+fn subrate_values(v: Subrates) -> [u32; 5]
+    ensures { λ r. ⌜ r ≡ subrateValues v ⌝ }
+{
+    [
+        v.min as u32,
+        v.max as u32,
+        v.latency as u32,
+        v.continuation as u32,
+        v.timeout as u32,
+    ]
+}
+
+fn change_values(e: SubrateChange) -> [u32; 5]
+    ensures { λ r. ⌜ r ≡ changeValues e ⌝ }
+{
+    [
+        e.handle as u32,
+        e.factor as u32,
+        e.latency as u32,
+        e.continuation as u32,
+        e.timeout as u32,
+    ]
+}
 
 fn put_placed(out: &mut [u8], at: usize, factor: u16, anchor: u16, blocks: u16) -> usize
     requires { ⌜ at + longestAnswer ≤ length (now out) ⌝ }
@@ -115,6 +149,49 @@ pub fn put_reporting_all(out: &mut [u8], at: usize, answer: ReportingAll) -> usi
     match answer {
         ReportingAll::Answered(n) => put_count(out, at, b"reported", n as u32),
         ReportingAll::Refused(r) => put_refused(out, at, r),
+    }
+}
+
+// The words of a message.
+fn put_message(out: &mut [u8], at: usize, message: Message) -> usize
+    requires { ⌜ at + longestMessage ≤ length (now out) ⌝ }
+    ensures { λ r. ⌜ PutsWithin longestMessage (now (out .entry)) at (wordsOf (messageAs message)) (now (out .exit)) r ⌝ }
+{
+    match message {
+        Message::Default(v) => {
+            let a = put_word(out, at, b"default");
+            put_row(out, a, &subrate_values(v))
+        }
+        Message::Request(handle, v) => {
+            let a = put_count(out, at, b"request", handle as u32);
+            put_row(out, a, &subrate_values(v))
+        }
+        Message::Change(e) => {
+            let a = put_count(out, at, b"change", e.status as u32);
+            put_row(out, a, &change_values(e))
+        }
+    }
+}
+
+/// The words of a reading's answer.
+pub fn put_reading(out: &mut [u8], at: usize, answer: Reading) -> usize
+    requires { ⌜ at + longestMessage ≤ length (now out) ⌝ }
+    ensures { λ r. ⌜ PutsWithin longestMessage (now (out .entry)) at (wordsOf (ofReading answer)) (now (out .exit)) r ⌝ }
+{
+    match answer {
+        Reading::Is(message) => put_message(out, at, message),
+        Reading::Refused(r) => put_refused(out, at, r),
+    }
+}
+
+/// The words of a writing's answer.
+pub fn put_writing(out: &mut [u8], at: usize, answer: Writing) -> usize
+    requires { ⌜ WritingFits answer × (at + longestAnswer ≤ length (now out)) ⌝ }
+    ensures { λ r. ⌜ PutsWords (now (out .entry)) at (ofWriting answer) (now (out .exit)) r ⌝ }
+{
+    match answer {
+        Writing::Size(size) => put_count(out, at, b"wrote", size as u32),
+        Writing::Refused(r) => put_refused(out, at, r),
     }
 }
 

@@ -1,3 +1,4 @@
 -- Hexadecimal, written and read back.
 pub mod HexLaws
 pub mod HexReading
+pub mod Printing

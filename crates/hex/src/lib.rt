@@ -6,6 +6,12 @@ ghost use Rattle.text.specs.Promises.{Puts};
 ghost use Rattle.hex.specs.Hex.{hexDigit, hex};
 ghost use Rattle.hex.specs.Promises.{IsNibble, ReadsHex};
 
+mod lending;
+
+pub use lending::MOST_BUFFER;
+pub use lending::blank;
+pub use lending::put_buffer;
+
 /// Bytes that were read, so many of them; or they are wrong.
 pub enum Hex {
     Bytes(usize),

@@ -5,7 +5,7 @@ use mathlib.Core.Logic.{_≢_}
 use mathlib.Core.List.{List, [], _∷_, _++_}
 use Prim.Native.Nat.{ℕ, zero, suc, _+_, _-_, _%_, _≤_}
 use native.Mathlib.Omega.{arith}
-use lib.ListN.{length, getD, take, drop, length-take, length-drop, take-append-drop}
+use lib.ListN.{length, getD, take, drop, length-drop, take-append-drop}
 use lib.Seq.{length-take-le}
 use Rattle.rules.specs.declared.Schedule.{Schedule}
 use Rattle.rules.specs.declared.ReportedAll.{ReportedAll}
@@ -21,6 +21,7 @@ use Rattle.texts.specs.Row.{IsRow}
 use Rattle.texts.proofs.RowLaws.{row-unique}
 use Rattle.text.specs.declared.Row.the-variants.{Wrong}
 use Rattle.text.specs.Promises.{HasRow, ReadsRow, Puts}
+use Rattle.text.proofs.Opening.{opens-long}
 use Rattle.text.proofs.Putting.{puts-after, puts-as}
 use Rattle.order.specs.declared.Performed.{Performed}
 use Rattle.reports.specs.Pairs.{reportsOf}
@@ -39,7 +40,7 @@ module _ (line : List ℕ) (opens : same (take 7 line) (text "reports") ≡ true
   word = same-exactly (take 7 line) (text "reports") .0 opens
 
   pub word-long : 7 ≤ length line
-  word-long = omega (arith, ap (λ (x : List ℕ). length x) word, length-take 7 line)
+  word-long = opens-long line (text "reports") opens
 
   -- What is asked for stands behind the word.
   behind : {entries : ℕ} {numbers : List ℕ} → AsksReports line entries numbers → IsRow (drop 7 line) (entries ∷ numbers)

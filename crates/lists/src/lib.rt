@@ -4,7 +4,6 @@ mod lending;
 mod reporting;
 
 pub use lending::blank;
-pub use lending::put_list;
 pub use reporting::Asked;
 pub use reporting::asked_of;
 pub use reporting::perform_reports;

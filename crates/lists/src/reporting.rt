@@ -11,12 +11,12 @@ ghost use Rattle.lists.specs.Promises.{ReadsAsked, Makes, Performs};
 use crate::LONGEST_ROW;
 use crate::MOST_ENTRIES;
 use crate::lending::blank;
-use crate::lending::put_list;
 use answer::put_reporting_all;
 use order::Performed;
 use reports::report_pairs;
 use rules::Schedule;
 use text::Row;
+use text::put_row;
 use text::put_word;
 use text::read_row;
 
@@ -62,7 +62,7 @@ fn make_reports(s: Schedule, numbers: &[u32], list: &mut [u32], out: &mut [u8]) 
     let answer = done.answer;
     let schedule = done.schedule;
     let a = put_reporting_all(out, 0, answer);
-    let b = put_list(out, a, list);
+    let b = put_row(out, a, list);
     let count = put_word(out, b, b"\n");
     Performed { schedule, count }
 }

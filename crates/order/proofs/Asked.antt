@@ -5,7 +5,7 @@ use mathlib.Core.List.{List, [], _∷_, _++_}
 use mathlib.Core.Logic.{_≢_}
 use Prim.Native.Nat.{ℕ, _^_, _<_, _≤_}
 use native.Mathlib.Omega.{arith}
-use lib.ListN.{length, getD, take, drop, length-take, take-append-drop}
+use lib.ListN.{length, getD, take, drop, take-append-drop}
 use lib.Seq.{length-take-le}
 use borrow.Author.Tests.{lt-ltb, le-leb, leb-true}
 use Rattle.rules.specs.declared.Command.{Command}
@@ -22,12 +22,14 @@ use Rattle.texts.proofs.RowLaws.{row-unique}
 use Rattle.texts.proofs.CommandLaws.{says-only, bad-only}
 use Rattle.text.specs.declared.Row.the-variants.{Wrong as RowWrong}
 use Rattle.text.specs.Promises.{HasRow, ReadsRow}
+use Rattle.text.proofs.Opening.{opens-long}
 use Rattle.hex.specs.declared.Hex.the-variants.{Bytes, Wrong}
 use Rattle.hex.specs.Hex.{hex}
 use Rattle.hex.specs.Promises.{ReadsHex}
 use Rattle.order.specs.declared.Order.{Order as Ordered}
 use Rattle.order.specs.declared.Order.the-variants.{Save, SaveInto, Load, Bad}
-use Rattle.order.specs.Orders.{Order, command, fresh, save, state, bad, saveInto, load, mostBuffer, orderLine, allowed, asks}
+use Rattle.hex.specs.Lending.{mostBuffer}
+use Rattle.order.specs.Orders.{Order, command, fresh, save, state, bad, saveInto, load, orderLine, allowed, asks}
 use Rattle.order.specs.Promises.{ofOrder, Within, Asks, AsksSave}
 use Rattle.order.proofs.OrderLaws.{Proper, asks-line, asks-bad}
 
@@ -75,7 +77,7 @@ module _ (line : List ℕ) (o : same (take 4 line) (text "save") ≡ true) where
   saved = same-exactly (take 4 line) (text "save") .0 o
 
   pub save-long : 4 ≤ length line
-  save-long = omega (arith, ap (λ (x : List ℕ). length x) saved, length-take 4 line)
+  save-long = opens-long line (text "save") o
 
   -- No number,
   asks-image : IsRow (drop 4 line) [] → AsksSave line Save
@@ -146,7 +148,7 @@ module _ (line : List ℕ) (o : same (take 5 line) (text "load ") ≡ true) (buf
   loaded = same-exactly (take 5 line) (text "load ") .0 o
 
   pub load-long : 5 ≤ length line
-  load-long = omega (arith, ap (λ (x : List ℕ). length x) loaded, length-take 5 line)
+  load-long = opens-long line (text "load ") o
 
   -- Bytes in hexadecimal,
   pub asks-load : (n : ℕ) → ReadsHex (drop 5 line) buffer (Bytes n) → Asks line buffer (Load n)

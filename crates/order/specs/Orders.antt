@@ -13,6 +13,7 @@ use Rattle.rules.specs.Decimal.{value}
 use Rattle.rules.specs.Words.{spaced}
 use Rattle.rules.specs.Commands.{lineOf, numbersOf, allFit, guess}
 use Rattle.hex.specs.Hex.{hex, unhex, allBytes}
+use Rattle.hex.specs.Lending.{mostBuffer}
 
 -- A command, a fresh start, the image, a save into a buffer of so many bytes, a load of bytes, the state.
 pub data Order : Type 0 where
@@ -32,10 +33,6 @@ orderLine bad = []
 orderLine (saveInto n) = text "save" ++ spaced (n ∷ [])
 orderLine (load []) = text "load"
 orderLine (load (b ∷ bs)) = text "load " ++ hex (b ∷ bs)
-
--- "at most 2,048"
-abbrev pub mostBuffer : ℕ
-mostBuffer = 2048
 
 -- Numbers that fit, a buffer that is not too large, bytes that are bytes.
 unfoldable pub allowed : Order → Bool

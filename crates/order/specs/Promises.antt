@@ -5,7 +5,8 @@ use mathlib.Core.List.{List}
 use lib.ListN.{length, take}
 use Rattle.order.specs.declared.Order.{Order as Ordered}
 use Rattle.order.specs.declared.Order.the-variants.{Command, Fresh, Save, SaveInto, Load, State, Bad}
-use Rattle.order.specs.Orders.{Order, command, fresh, save, state, bad, saveInto, load, mostBuffer, asks}
+use Rattle.hex.specs.Lending.{mostBuffer}
+use Rattle.order.specs.Orders.{Order, command, fresh, save, state, bad, saveInto, load, asks}
 
 -- The order for every case; the bytes of a load are the first n of the buffer.
 abbrev pub ofOrder : List ℕ → Ordered → Order

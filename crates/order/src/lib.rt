@@ -7,6 +7,7 @@ ghost use Rattle.rules.specs.Bytes.{same};
 ghost use Rattle.rules.specs.Text.{text as textOf};
 ghost use Rattle.order.specs.Promises.{Asks, AsksSave};
 use hex::Hex;
+use hex::MOST_BUFFER;
 use hex::read_hex;
 use line::says;
 use rules::Command;
@@ -16,9 +17,6 @@ use text::Row;
 use text::is_word;
 use text::opens;
 use text::read_row;
-
-// The largest buffer of a save, in bytes: mostBuffer of specs/Orders.
-const MOST_BUFFER: u32 = 2048;
 
 // The places after `save` and after `load` and its space: the words' lengths.
 const AFTER_SAVE: usize = 4;

@@ -1,4 +1,3 @@
 -- What each order prints, and what it leaves.
-pub mod Printing
 pub mod Saved
 pub mod Acting

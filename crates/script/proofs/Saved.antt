@@ -3,7 +3,7 @@ use mathlib.Core.Path.{_≡_, refl, sym, ap, _∙_}
 use mathlib.Core.List.{List}
 use Prim.Native.Nat.{ℕ, _*_, _≤_}
 use native.Mathlib.Omega.{arith}
-use lib.ListN.{length, take, drop, length-append, length-drop, length-replicate}
+use lib.ListN.{length, take, drop, length-append, length-drop}
 use lib.Seq.{take-at}
 use borrow.Author.Tests.{ltb-false}
 use Rattle.rules.specs.declared.Schedule.{Schedule}
@@ -13,10 +13,10 @@ use Rattle.rules.specs.declared.Saving.the-variants.{Size, Refused}
 use Rattle.rules.specs.Good.{Good}
 use Rattle.rules.specs.Text.{text}
 use Rattle.rules.specs.Words.{wordsOf}
-use Rattle.rules.specs.Answers.{ofSaving, refused, saved}
+use Rattle.rules.specs.Answers.{Written, refusingBuffer, ofSaving, saved}
 use Rattle.rules.specs.Lent.{over}
 use Rattle.rules.specs.Image.{image}
-use Rattle.rules.specs.Save.{Written, saveChecks, saveDone, save}
+use Rattle.rules.specs.Save.{saveChecks, saveDone, save}
 use Rattle.calls.proofs.RefusalLaws.{decided-cases}
 use Rattle.images.proofs.SaveLaws.{save-whole, save-size}
 use Rattle.images.proofs.ImageLaws.{image-bounds}
@@ -24,7 +24,9 @@ use Rattle.image.specs.Promises.{Saves}
 use Rattle.text.specs.Promises.{Puts}
 use Rattle.text.proofs.Putting.{puts-after, puts-as}
 use Rattle.hex.specs.Hex.{hex}
-use Rattle.script.specs.Performing.{imageLine, savedLine, blank, bufferWords}
+use Rattle.hex.specs.Lending.{blank, bufferWords}
+use Rattle.hex.proofs.Printing.{lent-line}
+use Rattle.script.specs.Performing.{imageLine, savedLine}
 use Rattle.state.specs.State.{newline}
 use Rattle.hex.proofs.HexLaws.{hex-length}
 
@@ -73,9 +75,7 @@ image-line s e p q r = puts-after (puts-after p (puts-as (ap hex e) q)) r
 pub saved-line : {l b c d : List ℕ} {i j k : ℕ} (s : Schedule) (entry exit : List ℕ) (a : Saving) (n : ℕ) → entry ≡ blank n → Saves s entry exit a
     → Puts l 0 (wordsOf (ofSaving a)) b i → Puts b i (bufferWords exit) c j → Puts c j newline d k → Puts l 0 (savedLine s n) d k
 unfolding savedLine
-saved-line s entry exit a n e p w q r =
-    let t = p ∙ ap (save s) e in
-    puts-after (puts-after (puts-as (ap (λ (x : Written). wordsOf (x .answer)) t) w) (puts-as (ap (λ (x : Written). bufferWords (x .buffer)) t) q)) r
+saved-line s entry exit a n e p w q r = lent-line (ofSaving a) exit (save s (blank n)) (p ∙ ap (save s) e) w q r
 
 -- A save keeps the buffer's size.
 pub save-length : (s : Schedule) (entry exit : List ℕ) (a : Saving) → Saves s entry exit a → length exit ≡ length entry
@@ -83,9 +83,6 @@ unfolding save saveChecks saveDone
 save-length s entry exit a p =
     let bytes = image s in
     ap (λ (w : Written). length (w .buffer)) p
-    ∙ decided-cases (λ (w : Written). length (w .buffer) ≡ length entry) (saveChecks s entry) (λ m. record { answer = refused m; buffer = entry }) (saveDone s entry)
+    ∙ decided-cases (λ (w : Written). length (w .buffer) ≡ length entry) (saveChecks s entry) (refusingBuffer entry) (saveDone s entry)
     (λ m. refl)
     (λ d. let l = ltb-false (length entry) (length bytes) (d .0) in omega (arith, length-append bytes (drop (length bytes) entry), length-drop (length bytes) entry))
-
-pub blank-size : (n : ℕ) {buffer : List ℕ} → buffer ≡ blank n → length buffer ≡ n
-blank-size n e = ap (λ (l : List ℕ). length l) e ∙ length-replicate n 165

@@ -1,10 +1,9 @@
 -- What a line of a script prints, and the schedule after it.
 use Prim.Native.Nat.{ℕ}
-use mathlib.Core.List.{List, [], _∷_, _++_}
-use lib.ListN.{replicate}
+use mathlib.Core.List.{List, _++_}
 use Rattle.rules.specs.declared.Schedule.{Schedule}
 use Rattle.rules.specs.declared.Line.the-variants.{Says}
-use Rattle.rules.specs.Text.{byte, text}
+use Rattle.rules.specs.Text.{text}
 use Rattle.rules.specs.Words.{wordsOf}
 use Rattle.rules.specs.Good.{fresh}
 use Rattle.rules.specs.Image.{image}
@@ -12,17 +11,9 @@ use Rattle.rules.specs.Save.{save}
 use Rattle.rules.specs.Load.{load}
 use Rattle.rules.specs.Program.{Printed, carriedOut}
 use Rattle.hex.specs.Hex.{hex}
+use Rattle.hex.specs.Lending.{blank, lentLine}
 use Rattle.state.specs.State.{newline, stateLines}
 use Rattle.order.specs.Orders.{Order, command, fresh as freshOrder, save as saveOrder, state, bad, saveInto, load as loadOrder}
-
--- "the whole buffer afterwards in hexadecimal", if there is one
-abbrev pub bufferWords : List ℕ → List ℕ
-bufferWords [] = []
-bufferWords (b ∷ bs) = byte " " ∷ hex (b ∷ bs)
-
--- A buffer of n bytes "that each hold A5 hexadecimal".
-abbrev pub blank : ℕ → List ℕ
-blank n = replicate n 165
 
 -- "`image`, one space and the image in lower-case hexadecimal"
 unfoldable pub imageLine : Schedule → List ℕ
@@ -31,10 +22,8 @@ imageLine s = text "image " ++ hex (image s) ++ newline
 
 -- "`saved` and the size, or `no 8`; then, if N is not 0, one space and the whole buffer afterwards in hexadecimal"
 unfoldable pub savedLine : Schedule → ℕ → List ℕ
-unfolding save wordsOf hex
-savedLine s n =
-    let w = save s (blank n) in
-    wordsOf (w .answer) ++ bufferWords (w .buffer) ++ newline
+unfolding save lentLine
+savedLine s n = lentLine (save s (blank n))
 
 -- No line prints more.
 abbrev pub mostPrinted : ℕ

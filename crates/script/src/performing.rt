@@ -1,16 +1,17 @@
 //! What a line prints, and the schedule after it.
-ghost use mathlib.Core.Path.{_≡_};
-ghost use Prim.Native.Nat.{_+_, _*_, _≤_};
-ghost use lib.ListN.{length, replicate};
+ghost use Prim.Native.Nat.{_≤_};
+ghost use lib.ListN.{length};
 ghost use Rattle.rules.specs.Good.{Good};
 ghost use Rattle.text.specs.Promises.{PutsWithin};
-ghost use Rattle.order.specs.Orders.{mostBuffer};
-ghost use Rattle.script.specs.Performing.{mostPrinted, bufferWords, imageLine, savedLine};
+ghost use Rattle.hex.specs.Lending.{mostBuffer};
+ghost use Rattle.script.specs.Performing.{mostPrinted, imageLine, savedLine};
 ghost use Rattle.script.specs.Promises.{Performs};
 use answer::put_loading;
 use answer::put_reply;
 use answer::put_saving;
 use command::obey;
+use hex::blank;
+use hex::put_buffer;
 use hex::put_hex;
 use image::load;
 use image::save;
@@ -22,27 +23,6 @@ use rules::Schedule;
 use schedule::fresh;
 use state::put_state;
 use text::put_word;
-
-// Each byte holds A5 hexadecimal.
-fn blank(bytes: &mut [u8])
-    ensures { λ _. ⌜ now (bytes .exit) ≡ replicate (length (now (bytes .entry))) 165 ⌝ }
-{
-    for i in 0..bytes.len() {
-        bytes[i] = 165;
-    }
-}
-
-// A space and the bytes of a buffer, if there are any.
-fn put_buffer(out: &mut [u8], at: usize, bytes: &[u8]) -> usize
-    requires { ⌜ at + 1 + 2 * length (now bytes) ≤ length (now out) ⌝ }
-    ensures { λ r. ⌜ PutsWithin (1 + 2 * length (now (bytes .entry))) (now (out .entry)) at (bufferWords (now (bytes .entry))) (now (out .exit)) r ⌝ }
-{
-    if bytes.len() == 0 {
-        return at;
-    }
-    let a = put_word(out, at, b" ");
-    put_hex(out, a, bytes)
-}
 
 // The image of a schedule, by way of a lent buffer.
 fn put_image(out: &mut [u8], s: Schedule, bytes: &mut [u8]) -> usize

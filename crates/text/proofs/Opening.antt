@@ -11,11 +11,13 @@ use Rattle.basics.proofs.BoolLaws.{is-false}
 use Rattle.basics.proofs.BytesLaws.{same-exactly, same-turn, same-differs}
 
 module _ (line word : List ℕ) where
-  -- A shorter line does not.
+  -- A line that does is no shorter;
+  pub opens-long : same (take (length word) line) word ≡ true → length word ≤ length line
+  opens-long e = let n = ap (λ (x : List ℕ). length x) (same-exactly (take (length word) line) word .0 e) in omega (arith, n, length-take (length word) line)
+
+  -- so a shorter one does not.
   pub opens-short : length line < length word → same (take (length word) line) word ≡ false
-  opens-short h =
-      is-false (same (take (length word) line) word)
-      (λ e. let n = ap (λ (x : List ℕ). length x) (same-exactly (take (length word) line) word .0 e) in omega (arith, n, length-take (length word) line))
+  opens-short h = is-false (same (take (length word) line) word) (λ e. omega (arith, opens-long e))
 
   module _ (i : ℕ) (hw : i < length word) (hl : length word ≤ length line) where
     inside : i < length (take (length word) line)

@@ -68,17 +68,17 @@ spaced-length n = ap (λ (x : List ℕ). length x) (spaced-one n) ∙ omega arit
 pub number-room : (k n : ℕ) → n < 10 ^ suc k → length (spaced (n ∷ [])) ≤ k + 2
 number-room k n h = omega (arith, spaced-length n, decimal-length k n h)
 
--- One number more after others.
+-- Numbers after others.
 pub spaced-append : (ns ms : List ℕ) → spaced (ns ++ ms) ≡ spaced ns ++ spaced ms
 unfolding spaced
 spaced-append [] ms = refl
 spaced-append (n ∷ ns) ms =
     ap {B = List ℕ} (λ l. 32 ∷ l) (ap (λ (l : List ℕ). decimal n ++ l) (spaced-append ns ms) ∙ sym (append-assoc (decimal n) (spaced ns) (spaced ms)))
 
-puts-number : {l b c : List ℕ} {start i j : ℕ} (word ns : List ℕ) (n : ℕ) → Puts l start (word ++ spaced ns) b i → Puts b i (spaced (n ∷ [])) c j
-    → Puts l start (word ++ spaced (ns ++ (n ∷ []))) c j
-puts-number {l} {c = c} {start} {j = j} word ns n p q =
-    subst (λ (x : List ℕ). Puts l start x c j) (append-assoc word (spaced ns) (spaced (n ∷ [])) ∙ ap (λ (x : List ℕ). word ++ x) (sym (spaced-append ns (n ∷ [])))) (puts-after p q)
+pub puts-row : {l b c : List ℕ} {start i j : ℕ} (word ns ms : List ℕ) → Puts l start (word ++ spaced ns) b i → Puts b i (spaced ms) c j
+    → Puts l start (word ++ spaced (ns ++ ms)) c j
+puts-row {l} {c = c} {start} {j = j} word ns ms p q =
+    subst (λ (x : List ℕ). Puts l start x c j) (append-assoc word (spaced ns) (spaced ms) ∙ ap (λ (x : List ℕ). word ++ x) (sym (spaced-append ns ms))) (puts-after p q)
 
 -- ---- and so many bytes at most
 -- The digits of a number below 10^(k+1).
@@ -102,7 +102,7 @@ module _ {l b : List ℕ} {start i : ℕ} {xs : List ℕ} where
 -- or a later one.
 pub within-spaced : {l b c : List ℕ} {start i j most : ℕ} (word ns : List ℕ) (k n : ℕ) → n < 10 ^ suc k → PutsWithin most l start (word ++ spaced ns) b i
     → Puts b i (spaced (n ∷ [])) c j → PutsWithin (most + (k + 2)) l start (word ++ spaced (ns ++ (n ∷ []))) c j
-within-spaced word ns k n h p q = record { puts = puts-number word ns n (p .puts) q; room = omega (arith, p .room, q .ends, number-room k n h) }
+within-spaced word ns k n h p q = record { puts = puts-row word ns (n ∷ []) (p .puts) q; room = omega (arith, p .room, q .ends, number-room k n h) }
 
 -- What is put from the start is a part of the buffer.
 pub within-part : {l b xs : List ℕ} {most n : ℕ} → PutsWithin most l 0 xs b n → most ≤ length l → n ≡ length (take n b)

@@ -10,6 +10,7 @@ pub use reading::read_row;
 pub use writing::put_count;
 pub use writing::put_decimal;
 pub use writing::put_refused;
+pub use writing::put_row;
 pub use writing::put_spaced;
 pub use writing::put_word;
 pub use writing::refusal_number;

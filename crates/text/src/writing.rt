@@ -1,5 +1,5 @@
 //! Words and numbers, written at a place; each answers the place after it.
-ghost use Prim.Native.Nat.{_+_, _≤_};
+ghost use Prim.Native.Nat.{_+_, _*_, _≤_};
 ghost use mathlib.Core.List.{[], _∷_, _++_};
 ghost use lib.ListN.{length};
 ghost use mathlib.Core.Path.{_≡_};
@@ -44,6 +44,18 @@ pub fn put_spaced(out: &mut [u8], at: usize, n: u32) -> usize
     put_decimal(out, at + 1, n)
 }
 
+/// A space and the number, for each.
+pub fn put_row(out: &mut [u8], at: usize, numbers: &[u32]) -> usize
+    requires { ⌜ at + 11 * length (now numbers) ≤ length (now out) ⌝ }
+    ensures { λ r. ⌜ PutsWithin (11 * length (now (numbers .entry))) (now (out .entry)) at (spaced (now (numbers .entry))) (now (out .exit)) r ⌝ }
+{
+    let mut next = at;
+    for i in 0..numbers.len() {
+        next = put_spaced(out, next, numbers[i]);
+    }
+    next
+}
+
 /// A word and a number.
 pub fn put_count(out: &mut [u8], at: usize, word: &[u8], n: u32) -> usize
     requires { ⌜ at + (length (now word) + 11) ≤ length (now out) ⌝ }
@@ -73,6 +85,8 @@ pub fn refusal_number(r: Refusal) -> u32
         Refusal::ReportsMany => 13,
         Refusal::ListShort => 14,
         Refusal::NoInterval => 15,
+        Refusal::MessageWrong => 16,
+        Refusal::ValuesForbidden => 17,
     }
 }
 

@@ -15,8 +15,8 @@ report-pairs-requires c κs = search needs
 put-reporting-all-requires : tie.Need-put-reporting-all-requires
 put-reporting-all-requires c κs = search needs
 
-put-list-requires : tie.Need-put-list-requires
-put-list-requires c κs = search needs
+put-row-requires : tie.Need-put-row-requires
+put-row-requires c κs = search needs
 
 slice-aggregate-put-word : tie.Need-slice-aggregate-put-word
 slice-aggregate-put-word c = search needs
@@ -42,9 +42,9 @@ returns c =
     record {
       prints =
           prints-reports (a .s) (a .numbers .now) (empty .blank .last .0) (call .report-pairs .last .1 .1 .0) (call .report-pairs .result) (length (a .list .now)) (empty .blank .ensures) (call .report-pairs .ensures)
-          (answer .put-reporting-all .ensures .puts) (list .put-list .ensures .puts) (word .put-word .ensures);
+          (answer .put-reporting-all .ensures .puts) (list .put-row .ensures .puts) (word .put-word .ensures);
       good = call .report-pairs .ensures .good;
-      fits = omega (arith, start .pre .1, empty .blank .kept, call .report-pairs .kept, answer .put-reporting-all .ensures .room, list .put-list .ensures .room, word .put-word .ensures .ends);
+      fits = omega (arith, start .pre .1, empty .blank .kept, call .report-pairs .kept, answer .put-reporting-all .ensures .room, list .put-row .ensures .room, word .put-word .ensures .ends);
     }
 
 pub make-reports-spec : {M : Type 1} → statement M
@@ -54,7 +54,7 @@ make-reports-spec =
     blank-requires
     report-pairs-requires
     put-reporting-all-requires
-    put-list-requires
+    put-row-requires
     slice-aggregate-put-word
     put-word-requires
     same-length

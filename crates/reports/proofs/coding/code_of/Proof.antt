@@ -1,5 +1,5 @@
 -- `reports::coding::code_of` meets its contract: each case has its own number.
-use mathlib.Core.Path.{sym, ap}
+use mathlib.Core.Path.{sym, ap, _∙_}
 use borrow.Author.Needs.{needs}
 use Rattle.rules.specs.Answers.{ofReporting}
 use Rattle.rules.specs.Reports.{coded}
@@ -61,7 +61,7 @@ returns-4 : tie.Need-returns-4
 returns-4 c = ap (λ a. coded (ofReporting a)) (sym (c .before .answer4 .given .1))
 
 returns-5 : tie.Need-returns-5
-returns-5 c = search needs
+returns-5 c = c .refusal-number .ensures ∙ ap (λ a. coded (ofReporting a)) (sym (c .before .before .answer5 .given .1))
 
 pub code-of-spec : {M : Type 1} → statement M
 code-of-spec =

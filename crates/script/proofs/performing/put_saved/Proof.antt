@@ -2,8 +2,9 @@
 use borrow.Author.Needs.{needs}
 use native.Mathlib.Omega.{arith}
 use lib.ListN.{length}
+use Rattle.hex.proofs.Printing.{blank-size}
 use Rattle.image.proofs.Calls.{saved-fits}
-use Rattle.script.proofs.Saved.{saved-line, save-length, blank-size}
+use Rattle.script.proofs.Saved.{saved-line, save-length}
 use Rattle.script.proofs.performing.put_saved.Statement.{statement}
 use Rattle.script.proofs.performing.put_saved.Tie as tie
 

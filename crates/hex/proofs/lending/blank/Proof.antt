@@ -1,12 +1,12 @@
--- `script::blank` meets its contract. The invariant: the first i bytes are blank.
+-- `hex::lending::blank` meets its contract. The invariant: the first i bytes are blank.
 use mathlib.Core.Path.{_≡_, refl}
 use Prim.Native.Nat.{_-_, _≤_}
 use native.Mathlib.Omega.{arith}
 use lib.ListN.{length, replicate}
 use Rattle.rules.specs.Lent.{over}
 use Rattle.basics.proofs.LentLaws.{filled-length, filled-next, filled-all}
-use Rattle.script.proofs.performing.blank.Statement.{statement}
-use Rattle.script.proofs.performing.blank.Tie as tie
+use Rattle.hex.proofs.lending.blank.Statement.{statement}
+use Rattle.hex.proofs.lending.blank.Tie as tie
 
 abbrev Inv-loop : tie.InvT-loop
 Inv-loop bytes₀ i₀ i-end bytes i = (i ≤ length bytes₀) × (bytes ≡ over (replicate i 165) bytes₀)

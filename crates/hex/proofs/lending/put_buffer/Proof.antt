@@ -1,12 +1,12 @@
--- `script::put_buffer` meets its contract: nothing, or a space and the bytes.
+-- `hex::lending::put_buffer` meets its contract: nothing, or a space and the bytes.
 use borrow.Author.Needs.{needs}
 use mathlib.Core.Path.{refl, _∙_}
 use native.Mathlib.Omega.{arith}
 use Rattle.text.proofs.Putting.{puts-after, puts-length}
 use Rattle.hex.proofs.HexLaws.{hex-length}
-use Rattle.script.proofs.Printing.{no-words, buffer-words}
-use Rattle.script.proofs.performing.put_buffer.Statement.{statement}
-use Rattle.script.proofs.performing.put_buffer.Tie as tie
+use Rattle.hex.proofs.Printing.{no-words, buffer-words}
+use Rattle.hex.proofs.lending.put_buffer.Statement.{statement}
+use Rattle.hex.proofs.lending.put_buffer.Tie as tie
 
 returns : tie.Need-returns
 returns c =
