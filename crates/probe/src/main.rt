@@ -14,10 +14,12 @@ use order::Performed;
 use rules::Schedule;
 use schedule::fresh;
 use script::perform;
+use talk::Told;
+use talk::perform_message;
 use text::find;
 use text::opens;
 
-// Performs a line: one that lends a list of numbers, or any other.
+// Performs a line: one that lends a list of numbers, one of a message, or any other.
 fn perform_line(s: Schedule, line: &[u8], bytes: &mut [u8], out: &mut [u8]) -> Performed
     requires { ⌜ Good s × (length (now line) ≤ 65536) × (32768 ≤ length (now bytes)) × (mostPrinted ≤ length (now out)) ⌝ }
     ensures { λ r. ⌜ Good (r .schedule) × (r .count ≤ mostPrinted) ⌝ }
@@ -27,7 +29,10 @@ fn perform_line(s: Schedule, line: &[u8], bytes: &mut [u8], out: &mut [u8]) -> P
         let mut list = [0u32; MOST_ENTRIES];
         return perform_reports(s, line, &mut numbers, &mut list, out);
     }
-    perform(s, line, bytes, out)
+    match perform_message(line, bytes, out) {
+        Told::Count(count) => Performed { schedule: s, count },
+        Told::Other => perform(s, line, bytes, out),
+    }
 }
 
 // Performs each line and writes what it prints; a tail is a bad line. False where the output cannot be written.

@@ -1,6 +1,9 @@
--- `probe::perform_line` meets its contract: the line goes to the one or the other.
+-- `probe::perform_line` meets its contract: the line goes to the one that it is for.
 use borrow.Author.Needs.{needs}
-use mathlib.Core.Path.{sym, _∙_}
+use mathlib.Core.Path.{sym, subst, _∙_}
+use native.Mathlib.Omega.{arith}
+use Rattle.talk.specs.Promises.{Tells}
+use Rattle.talk.proofs.Printing.{prints-few}
 use Rattle.probe.proofs.perform_line.Statement.{statement}
 use Rattle.probe.proofs.perform_line.Tie as tie
 
@@ -25,6 +28,15 @@ same-length c = search needs
 returns : tie.Need-returns
 returns c = search needs
 
+perform-message-requires : tie.Need-perform-message-requires
+perform-message-requires c κs = search needs
+
+enum-known-count : tie.Need-enum-known-count
+enum-known-count c = search needs
+
+enum-told : tie.Need-enum-told
+enum-told c = search needs
+
 perform-requires : tie.Need-perform-requires
 perform-requires c κs = search needs
 
@@ -35,7 +47,16 @@ same-length-3 : tie.Need-same-length-3
 same-length-3 c = search needs
 
 returns-2 : tie.Need-returns-2
-returns-2 c = search needs
+returns-2 c = (search needs, omega (arith, prints-few (subst (Tells _ _) (c .before .count .given .1) (c .before .before .before .before .before .before .before .perform-message .ensures))))
+
+same-length-4 : tie.Need-same-length-4
+same-length-4 c = search needs
+
+same-length-5 : tie.Need-same-length-5
+same-length-5 c = search needs
+
+returns-3 : tie.Need-returns-3
+returns-3 c = search needs
 
 pub perform-line-spec : {M : Type 1} → statement M
 perform-line-spec =
@@ -48,7 +69,13 @@ perform-line-spec =
     perform-reports-requires
     same-length
     returns
+    perform-message-requires
+    enum-known-count
+    enum-told
     perform-requires
     same-length-2
     same-length-3
-    returns-2)
+    returns-2
+    same-length-4
+    same-length-5
+    returns-3)

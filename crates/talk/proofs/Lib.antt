@@ -1,0 +1,3 @@
+-- The numbers of a line, and what it prints.
+pub mod Numbering
+pub mod Printing

@@ -1,0 +1,2 @@
+-- The probe's lines that read and write a message.
+pub mod Promises
