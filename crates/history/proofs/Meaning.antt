@@ -9,10 +9,9 @@ use Rattle.rules.specs.Core.{isRange}
 use Rattle.rules.specs.Ownership.{belongs, owns}
 use Rattle.rules.specs.Good.{Good, treeFor}
 use Rattle.rules.specs.Handles.{connection}
-use Rattle.rules.specs.Answers.{Answer, ok}
+use Rattle.rules.specs.Answers.{Answer, Written, ok}
 use Rattle.rules.specs.Admit.{admitDone, admit}
 use Rattle.rules.specs.Image.{image}
-use Rattle.rules.specs.Save.{Written}
 use Rattle.blocks.proofs.EndlessTime.{belongs-reserved}
 use Rattle.rules.specs.Sound.{Numbers}
 use Rattle.blocks.proofs.ScheduleLaws.{good-sound}

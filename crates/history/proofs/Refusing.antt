@@ -12,8 +12,7 @@ use Rattle.rules.specs.Answers.{Outcome, refused, slots}
 use Rattle.rules.specs.Owner.{ownerOr, ownerOf}
 use Rattle.rules.specs.Anchor.{slotsToAnchor, anchorChecks, anchor}
 use Rattle.rules.specs.Save.{saveChecks, saveDone, save}
-use Rattle.calls.proofs.RefusalLaws.{decided-cases, refused-same}
-use Rattle.calls.proofs.CallLaws.{InTable, Tabled, Leaves, tabled, refusal-in-table, refusal-keeps-schedule}
+use Rattle.calls.proofs.CallLaws.{InTable, Tabled, Leaves, tabled, refusal-in-table, refusal-keeps-schedule, refusal-keeps-buffer}
 use Rattle.calls.proofs.ReportsLaws.{refusal-listed}
 use Rattle.images.proofs.LoadLaws.{load-in-table, load-keeps}
 use Rattle.history.specs.Calls.{Call, Admit, Drop, Report, Reports, Owner, Anchor, Save, Load, Lent, Result, beside, ruledCall, ruled}
@@ -32,11 +31,7 @@ owner-tabled (some x) n e = let z : _≡_ {A = ℕ} 0 1 = cc in absurd (omega ar
 -- ---- of a save
 save-left : (s : Schedule) (buffer : List ℕ) (n : ℕ) → save s buffer .answer ≡ refused n → InTable n × (save s buffer .buffer ≡ buffer)
 unfolding save saveDone
-save-left s buffer n =
-    decided-cases (λ w. w .answer ≡ refused n → InTable n × (w .buffer ≡ buffer)) (saveChecks s buffer) (λ m. record { answer = refused m; buffer = buffer })
-    (saveDone s buffer)
-    (λ why e. ((why, sym (refused-same e)), refl))
-    (λ p e. let z : _≡_ {A = ℕ} 0 1 = cc in absurd (omega arith))
+save-left s buffer n = refusal-keeps-buffer (saveChecks s buffer) buffer (saveDone s buffer) (λ m e. let z : _≡_ {A = ℕ} 0 1 = cc in omega arith) n
 
 -- ---- of any call
 outcome-left : (s : Schedule) (lent : Lent) {o : Outcome} → Leaves s o → (n : ℕ) → o .answer ≡ refused n → Left s lent (beside lent o) n

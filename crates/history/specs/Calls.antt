@@ -4,14 +4,14 @@ use mathlib.Core.List.{List, []}
 use lib.ListN.{getD}
 use Rattle.rules.specs.declared.Schedule.{Schedule}
 use Rattle.rules.specs.declared.Report.{Report as ReportOfList}
-use Rattle.rules.specs.Answers.{Answer, Outcome, Listed}
+use Rattle.rules.specs.Answers.{Answer, Outcome, Listed, Written}
 use Rattle.rules.specs.Admit.{admit}
 use Rattle.rules.specs.Drop.{dropHandle}
 use Rattle.rules.specs.Report.{report}
 use Rattle.rules.specs.Reports.{reportAll}
 use Rattle.rules.specs.Owner.{ownerOf}
 use Rattle.rules.specs.Anchor.{anchor}
-use Rattle.rules.specs.Save.{Written, save}
+use Rattle.rules.specs.Save.{save}
 use Rattle.rules.specs.Load.{load}
 
 -- Bytes: numbers below 256.

@@ -25,7 +25,7 @@ use Rattle.history.specs.Demands.{Demand1, Demand2, Demand3}
 abbrev pub StartsAs : Start → Schedule → Type 0
 StartsAs Fresh s = Starts s
 
--- One case for each public call: what the code returned meets its promise, and is what is left.
+-- One case for each public call on a schedule: what the code returned meets its promise, and is what is left.
 abbrev pub Meets : Schedule → Call → Lent → Result → Type 0
 Meets s (Admit handle smallest largest floor ceiling) lent t =
     (r : Admitted) × Admits s handle smallest largest floor ceiling r × (t ≡ beside lent (ofAdmitted r))

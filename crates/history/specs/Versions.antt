@@ -13,7 +13,7 @@ use Rattle.rules.specs.declared.Refusal.the-variants.{HandleAbove63}
 use Rattle.rules.specs.Good.{withConnection}
 use Rattle.rules.specs.Refusals.{number}
 use Rattle.rules.specs.Handles.{connection, isLive}
-use Rattle.rules.specs.Answers.{Answer, refused, ok, dropped, kept, grown, shrunk, tight, owner, idle, slots, saved, loaded, reported}
+use Rattle.rules.specs.Answers.{Answer, refused, ok, dropped, kept, grown, shrunk, tight, owner, idle, slots, saved, loaded, reported, message, wrote}
 use Rattle.rules.specs.Admit.{kFor, newConnection}
 use Rattle.rules.specs.Drop.{dropHandle}
 use Rattle.rules.specs.Report.{metered}
@@ -91,6 +91,8 @@ accepted (slots n) = true
 accepted (saved n) = true
 accepted (loaded n) = true
 accepted (reported n) = true
+accepted (message m) = true
+accepted (wrote n) = true
 
 abbrev leaving : Schedule → Result → Result
 leaving s it = record { answer = it .answer; schedule = s; lent = it .lent }
