@@ -1,13 +1,14 @@
-/* The radio schedule of a growing house, for C and C++.
+/* The radio schedule of a growing house, and the subrate messages of HCI, for C and C++.
  *
  * Link target/staticlib/libdoor.a, which c/run builds; of a libc it needs memcpy and memset, and nothing else. x86-64 Linux only.
  *
- * Every number and every byte that a call is given is answered by the rule sheet. What the caller must keep to, as nothing checks it:
+ * Every number and every byte that a call is given is answered by the rule sheet, those of a message by what the Core Specification allows.
+ * What the caller must keep to, as nothing checks it:
  *  - this header and the archive are of one release: a call may take other numbers in another, and a linker does not look;
  *  - a struct beak is all zeros, or what beak_fresh gave, or what a call left, or a copy of such a one: nobody else writes its bytes;
  *  - one call at a time on a struct beak: no other thread reads or writes it meanwhile;
- *  - as long as a call runs, its image or reports can be read and its buffer or answers written, and none overlaps another or the schedule;
- *  - to an export itself the pointer of what is lent is not null, even for nothing: the functions on a pointer see to that.
+ *  - as long as a call runs, its image, reports or message can be read and its buffer or answers written, and none overlaps another or the schedule;
+ *  - to an export itself the pointer of what is lent is not null, even for nothing: the functions around the exports see to that.
  */
 #ifndef BEAK_H
 #define BEAK_H
@@ -28,21 +29,26 @@ struct beak {
     uint32_t opaque[288];
 };
 
-/* What a call says: its kind, and the kind's values in the order in which they stand here; the others are 0. */
+/* What a call says: its kind, and the kind's values in the order in which they stand here; the others are 0. Of a message that was read they are all 0:
+ * its values stand in struct beak_read. */
 enum beak_kind {
-    BEAK_REFUSED = 1,  /* the refusal's number */
-    BEAK_PLACED = 2,   /* factor, anchor, length */
+    BEAK_REFUSED = 1,   /* the refusal's number */
+    BEAK_PLACED = 2,    /* factor, anchor, length */
     BEAK_DROPPED = 3,
-    BEAK_KEPT = 4,     /* length */
-    BEAK_GROWN = 5,    /* length */
-    BEAK_SHRUNK = 6,   /* length */
-    BEAK_TIGHT = 7,    /* length */
-    BEAK_OWNER = 8,    /* handle */
+    BEAK_KEPT = 4,      /* length */
+    BEAK_GROWN = 5,     /* length */
+    BEAK_SHRUNK = 6,    /* length */
+    BEAK_TIGHT = 7,     /* length */
+    BEAK_OWNER = 8,     /* handle */
     BEAK_IDLE = 9,
-    BEAK_SLOTS = 10,   /* slots */
-    BEAK_SAVED = 11,   /* size of the image in bytes */
-    BEAK_LOADED = 12,  /* connections of the image */
-    BEAK_REPORTED = 13 /* how many reports were made */
+    BEAK_SLOTS = 10,    /* slots */
+    BEAK_SAVED = 11,    /* size of the image in bytes */
+    BEAK_LOADED = 12,   /* connections of the image */
+    BEAK_REPORTED = 13, /* how many reports were made */
+    BEAK_DEFAULT = 14,
+    BEAK_REQUEST = 15,
+    BEAK_CHANGE = 16,
+    BEAK_WROTE = 17     /* size of the message in bytes */
 };
 struct beak_said {
     uint32_t kind, first, second, third;
@@ -56,6 +62,26 @@ struct beak_sample {
     uint32_t handle, sample;
 };
 
+/* The values of a subrate command, timeout in units of 10 ms. Allowed are 1 <= min <= max, max * (latency + 1) <= 500, continuation < max and
+ * 10 <= timeout <= 3200, and of a request handle <= 3839; that max ends at 500 and latency and continuation at 499 follows. */
+struct beak_subrates {
+    uint16_t min, max, latency, continuation, timeout;
+};
+
+/* The values of a subrate change event. Of status 0 the same is allowed as of a request, with factor for min and max; of another status everything. */
+struct beak_change {
+    uint8_t status;
+    uint16_t handle, factor, latency, continuation, timeout;
+};
+
+/* What was read: DEFAULT has subrates, REQUEST handle and subrates, CHANGE change, and REFUSED its number in said. What it does not have is 0. */
+struct beak_read {
+    struct beak_said said;
+    uint16_t handle;
+    struct beak_subrates subrates;
+    struct beak_change change;
+};
+
 /* ---- what the archive has: a schedule by value, and the one that the call leaves beside what it says */
 struct beak_called {
     struct beak_said said;
@@ -67,6 +93,10 @@ BEAK_HOLDS(sizeof(struct beak) == 1152 && BEAK_ALIGNMENT(struct beak) == 4);
 BEAK_HOLDS(sizeof(struct beak_said) == 16 && BEAK_ALIGNMENT(struct beak_said) == 4);
 BEAK_HOLDS(sizeof(struct beak_sample) == 8 && BEAK_ALIGNMENT(struct beak_sample) == 4);
 BEAK_HOLDS(sizeof(struct beak_called) == 1168 && offsetof(struct beak_called, schedule) == 16);
+BEAK_HOLDS(sizeof(struct beak_subrates) == 10 && BEAK_ALIGNMENT(struct beak_subrates) == 2);
+BEAK_HOLDS(sizeof(struct beak_change) == 12 && BEAK_ALIGNMENT(struct beak_change) == 2 && offsetof(struct beak_change, handle) == 2);
+BEAK_HOLDS(sizeof(struct beak_read) == 40 && BEAK_ALIGNMENT(struct beak_read) == 4 && offsetof(struct beak_read, handle) == 16);
+BEAK_HOLDS(offsetof(struct beak_read, subrates) == 18 && offsetof(struct beak_read, change) == 28);
 
 struct beak beak_fresh(void);
 struct beak_called beak_admitted(struct beak s, uint32_t handle, uint32_t smallest, uint32_t largest, uint32_t floor, uint32_t ceiling);
@@ -78,6 +108,11 @@ struct beak_called beak_loaded(struct beak s, const uint8_t *bytes, size_t size)
 struct beak_said beak_saved(struct beak s, uint8_t *buffer, size_t room);
 struct beak_said beak_owned(struct beak s, uint32_t block);
 struct beak_said beak_anchored(struct beak s, uint32_t handle, uint32_t block);
+/* of a message, with no schedule */
+struct beak_read beak_message_read(const uint8_t *bytes, size_t size);
+struct beak_said beak_default_written(struct beak_subrates v, uint8_t *buffer, size_t room);
+struct beak_said beak_request_written(uint16_t handle, struct beak_subrates v, uint8_t *buffer, size_t room);
+struct beak_said beak_change_written(struct beak_change e, uint8_t *buffer, size_t room);
 
 /* ---- the calls, on a schedule behind a pointer; a refused one leaves it as it was */
 /* Start anew, with no connection. It has no answer. */
@@ -151,6 +186,33 @@ static inline struct beak_said beak_owner(const struct beak *s, uint32_t block) 
 /* Slots from the start of the block to the connection's next anchor: SLOTS. Refused: 1 handle above 63, 3 handle not live. */
 static inline struct beak_said beak_anchor(const struct beak *s, uint32_t handle, uint32_t block) {
     return beak_anchored(*s, handle, block);
+}
+
+/* ---- the calls on a message, with no schedule. It begins at its opcode or event code. Bytes past what is written stay as they were, and all bytes if
+ * the call is refused */
+/* Read a message, which is all of these bytes: DEFAULT, REQUEST or CHANGE. Refused, in this order: 16 wrong code or size, such as a byte past the
+ * message, 17 values that the Core Specification forbids. */
+static inline struct beak_read beak_read_message(const uint8_t *bytes, size_t size) {
+    const uint8_t none = 0;
+    return beak_message_read(size != 0 ? bytes : &none, size);
+}
+
+/* Write a default-subrate command from the buffer's start, 13 bytes: WROTE. Refused: 17 values forbidden, then 8 buffer shorter than the message. */
+static inline struct beak_said beak_write_default(struct beak_subrates v, uint8_t *buffer, size_t room) {
+    uint8_t none = 0;
+    return beak_default_written(v, room != 0 ? buffer : &none, room);
+}
+
+/* Write a subrate request command from the buffer's start, 15 bytes: WROTE. Refused: 17 values forbidden, then 8 buffer shorter than the message. */
+static inline struct beak_said beak_write_request(uint16_t handle, struct beak_subrates v, uint8_t *buffer, size_t room) {
+    uint8_t none = 0;
+    return beak_request_written(handle, v, room != 0 ? buffer : &none, room);
+}
+
+/* Write a subrate change event from the buffer's start, 14 bytes: WROTE. Refused: 17 values forbidden, then 8 buffer shorter than the message. */
+static inline struct beak_said beak_write_change(struct beak_change e, uint8_t *buffer, size_t room) {
+    uint8_t none = 0;
+    return beak_change_written(e, room != 0 ? buffer : &none, room);
 }
 
 #ifdef __cplusplus

@@ -1,4 +1,5 @@
-/* The rule sheet's whole case, call by call; a save, a fresh start, and a load of those bytes; reports of a whole cycle at once; and admissions by a range. */
+/* The rule sheet's whole case, call by call; a save, a fresh start, and a load of those bytes; reports of a whole cycle at once; admissions by a range;
+ * and subrate messages. */
 #include <stdbool.h>
 #include <stdio.h>
 #include <string.h>
@@ -18,6 +19,28 @@ static void expect(bool fact, const char *words) {
 static void told(const char *call, struct beak_said r, uint32_t kind, uint32_t first, uint32_t second, uint32_t third) {
     printf("%-29s kind %2u: %u %u %u\n", call, r.kind, r.first, r.second, r.third);
     expect(r.kind == kind && r.first == first && r.second == second && r.third == third, call);
+}
+
+static bool same_subrates(struct beak_subrates v, struct beak_subrates w) {
+    return v.min == w.min && v.max == w.max && v.latency == w.latency && v.continuation == w.continuation && v.timeout == w.timeout;
+}
+
+static bool same_change(struct beak_change e, struct beak_change f) {
+    return e.status == f.status && e.handle == f.handle && e.factor == f.factor && e.latency == f.latency && e.continuation == f.continuation &&
+           e.timeout == f.timeout;
+}
+
+static bool has(struct beak_read r, uint16_t handle, struct beak_subrates v, struct beak_change e) {
+    return r.handle == handle && same_subrates(r.subrates, v) && same_change(r.change, e);
+}
+
+/* A message beside its handle, its subrates and its change, which must be these: what it does not have is 0. */
+static void told_read(const char *call, struct beak_read r, uint32_t kind, uint16_t handle, struct beak_subrates v, struct beak_change e) {
+    printf("%-29s kind %2u: %u, ", call, r.said.kind, r.handle);
+    printf("%u %u %u %u %u, ", r.subrates.min, r.subrates.max, r.subrates.latency, r.subrates.continuation, r.subrates.timeout);
+    printf("%u %u %u %u %u %u\n", r.change.status, r.change.handle, r.change.factor, r.change.latency, r.change.continuation, r.change.timeout);
+    expect(r.said.kind == kind && r.said.first == 0 && r.said.second == 0 && r.said.third == 0, call);
+    expect(has(r, handle, v, e), call);
 }
 
 static bool all(const uint8_t *from, const uint8_t *end, uint8_t byte) {
@@ -82,6 +105,50 @@ static void by_a_range(void) {
     told("admit 1 13 23 1 1  no 15", beak_admit(&other, 1, 13, 23, 1, 1), BEAK_REFUSED, 15, 0, 0);
 }
 
+/* A default is read, and written again; with latency 1 it is forbidden, as 500 * 2 is above 500. A request is written, and read again. */
+static void subrate_commands(void) {
+    const uint8_t bytes[13] = {0x7d, 0x20, 0x0a, 0x01, 0x00, 0xf4, 0x01, 0x00, 0x00, 0x00, 0x00, 0x0a, 0x00};
+    const struct beak_subrates widest = {1, 500, 0, 0, 10}, beyond = {1, 500, 1, 0, 10}, eighth = {8, 8, 0, 1, 600};
+    const struct beak_change no_change = {0, 0, 0, 0, 0, 0};
+    static uint8_t many[65536];
+    uint8_t buffer[16];
+    struct beak_read r = beak_read_message(bytes, 13);
+    told_read("read 13 bytes      default", r, BEAK_DEFAULT, 0, widest, no_change);
+    told("read 12 of them    no 16", beak_read_message(bytes, 12).said, BEAK_REFUSED, 16, 0, 0);
+    told("read no bytes      no 16", beak_read_message(NULL, 0).said, BEAK_REFUSED, 16, 0, 0);
+    memcpy(many, bytes, 13);
+    told("read 65,536 bytes  no 16", beak_read_message(many, sizeof many).said, BEAK_REFUSED, 16, 0, 0);
+    told("default into 13    wrote 13", beak_write_default(r.subrates, buffer, 13), BEAK_WROTE, 13, 0, 0);
+    expect(memcmp(buffer, bytes, 13) == 0, "what was read and written again is the same, byte by byte");
+    told("default into 0     no 8", beak_write_default(widest, NULL, 0), BEAK_REFUSED, 8, 0, 0);
+    told("latency 1 into 0   no 17", beak_write_default(beyond, NULL, 0), BEAK_REFUSED, 17, 0, 0);
+
+    memset(buffer, 0x55, sizeof buffer);
+    told("request into 14    no 8", beak_write_request(1, eighth, buffer, 14), BEAK_REFUSED, 8, 0, 0);
+    expect(all(buffer, buffer + 16, 0x55), "a refused message leaves the buffer as it was");
+    told("request into 16    wrote 15", beak_write_request(1, eighth, buffer, 16), BEAK_WROTE, 15, 0, 0);
+    expect(buffer[15] == 0x55, "the byte past the message is as it was");
+    told_read("read these 15      request", beak_read_message(buffer, 15), BEAK_REQUEST, 1, eighth, no_change);
+    told("read all 16        no 16", beak_read_message(buffer, 16).said, BEAK_REFUSED, 16, 0, 0);
+}
+
+/* A continuation number that is not below the factor is forbidden in an event of status 0, and in no other. */
+static void subrate_change(void) {
+    const struct beak_subrates no_subrates = {0, 0, 0, 0, 0};
+    const struct beak_change no_change = {0, 0, 0, 0, 0, 0}, changed = {0, 1, 8, 0, 1, 600}, failed = {1, 1, 8, 0, 8, 600};
+    uint8_t buffer[15];
+    memset(buffer, 0x55, sizeof buffer);
+    told("change into 15     wrote 14", beak_write_change(changed, buffer, 15), BEAK_WROTE, 14, 0, 0);
+    expect(buffer[14] == 0x55, "the byte past the message is as it was");
+    told_read("read these 14      change", beak_read_message(buffer, 14), BEAK_CHANGE, 0, no_subrates, changed);
+    buffer[10] = 8;
+    struct beak_read refused = beak_read_message(buffer, 14);
+    told("continuation 8     no 17", refused.said, BEAK_REFUSED, 17, 0, 0);
+    expect(has(refused, 0, no_subrates, no_change), "a refused message has no values");
+    buffer[3] = 1;
+    told_read("status 1           change", beak_read_message(buffer, 14), BEAK_CHANGE, 0, no_subrates, failed);
+}
+
 /* A schedule of zeros is the fresh one: proved of its fields, and compared here byte by byte. */
 static void zeros_are_fresh(void) {
     struct beak fresh, zeros;
@@ -97,6 +164,8 @@ int main(void) {
     save_and_load();
     reports_at_once();
     by_a_range();
+    subrate_commands();
+    subrate_change();
     puts(right ? "as the rule sheet has it" : "NOT as the rule sheet has it");
     return right ? 0 : 1;
 }

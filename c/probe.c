@@ -76,6 +76,31 @@ static size_t pairs(struct rest r) {
     return ends(r) ? size : 0;
 }
 
+/* No bytes at the line's end, or a space and pairs. */
+static bool some_bytes(struct rest r, size_t *size) {
+    *size = 0;
+    if (ends(r)) return true;
+    if (passes(&r, " ")) *size = pairs(r);
+    return *size != 0;
+}
+
+/* The room of a buffer, and then so many numbers of two bytes. */
+static bool room_and_values(struct rest r, int count, uint32_t *n) {
+    if (!numbers(r, 1 + count, n) || n[0] > LARGEST_BUFFER) return false;
+    while (count > 0 && n[count] <= UINT16_MAX) count--;
+    return count == 0;
+}
+
+static struct beak_subrates subrates(const uint32_t *n) {
+    struct beak_subrates v = {(uint16_t)n[0], (uint16_t)n[1], (uint16_t)n[2], (uint16_t)n[3], (uint16_t)n[4]};
+    return v;
+}
+
+static struct beak_change change(const uint32_t *n) {
+    struct beak_change e = {(uint8_t)n[0], (uint16_t)n[1], (uint16_t)n[2], (uint16_t)n[3], (uint16_t)n[4], (uint16_t)n[5]};
+    return e;
+}
+
 /* ---- printing an answer */
 
 static void print_bytes(size_t count) {
@@ -97,6 +122,10 @@ static const char *word(uint32_t kind) {
     case BEAK_SAVED: return "saved";
     case BEAK_LOADED: return "loaded";
     case BEAK_REPORTED: return "reported";
+    case BEAK_DEFAULT: return "default";
+    case BEAK_REQUEST: return "request";
+    case BEAK_CHANGE: return "change";
+    case BEAK_WROTE: return "wrote";
     }
     return "?";
 }
@@ -107,6 +136,28 @@ static void print(struct beak_said r) {
         printf(" %u %u %u", r.first, r.second, r.third);
     else if (r.kind != BEAK_DROPPED && r.kind != BEAK_IDLE)
         printf(" %u", r.first);
+}
+
+/* An answer, and the whole buffer that the call was lent. */
+static void print_lent(struct beak_said r, size_t room) {
+    print(r);
+    if (room != 0) printf(" ");
+    print_bytes(room);
+}
+
+static void print_subrates(struct beak_subrates v) { printf(" %u %u %u %u %u", v.min, v.max, v.latency, v.continuation, v.timeout); }
+
+static void print_change(struct beak_change e) {
+    printf(" %u %u %u %u %u %u", e.status, e.handle, e.factor, e.latency, e.continuation, e.timeout);
+}
+
+static void print_message(struct beak_read r) {
+    printf("%s", word(r.said.kind));
+    if (r.said.kind == BEAK_REQUEST) printf(" %u", r.handle);
+    if (r.said.kind == BEAK_CHANGE)
+        print_change(r.change);
+    else
+        print_subrates(r.subrates);
 }
 
 static uint32_t little(const uint8_t *b, int width) { return width == 0 ? 0 : b[0] + (little(b + 1, width - 1) << 8); }
@@ -171,19 +222,13 @@ static bool save(struct rest r) {
     mark();
     struct beak_said said = beak_save(&s, bytes, room);
     mark();
-    print(said);
-    if (room != 0) printf(" ");
-    print_bytes(room);
+    print_lent(said, room);
     return true;
 }
 
 static bool load(struct rest r) {
-    size_t size = 0;
-    if (!ends(r)) {
-        if (!passes(&r, " ")) return false;
-        size = pairs(r);
-        if (size == 0) return false;
-    }
+    size_t size;
+    if (!some_bytes(r, &size)) return false;
     mark();
     struct beak_said said = beak_load(&s, bytes, size);
     mark();
@@ -206,10 +251,63 @@ static bool reports(struct rest r) {
     return true;
 }
 
+static bool message(struct rest r) {
+    size_t size;
+    if (!some_bytes(r, &size)) return false;
+    mark();
+    struct beak_read was = beak_read_message(bytes, size);
+    mark();
+    if (was.said.kind == BEAK_REFUSED)
+        print(was.said);
+    else
+        print_message(was);
+    return true;
+}
+
+static bool write_default(struct rest r) {
+    uint32_t n[6];
+    if (!room_and_values(r, 5, n)) return false;
+    struct beak_subrates v = subrates(n + 1);
+    memset(bytes, 0xA5, n[0]);
+    mark();
+    struct beak_said said = beak_write_default(v, bytes, n[0]);
+    mark();
+    print_lent(said, n[0]);
+    return true;
+}
+
+static bool write_request(struct rest r) {
+    uint32_t n[7];
+    if (!room_and_values(r, 6, n)) return false;
+    struct beak_subrates v = subrates(n + 2);
+    memset(bytes, 0xA5, n[0]);
+    mark();
+    struct beak_said said = beak_write_request((uint16_t)n[1], v, bytes, n[0]);
+    mark();
+    print_lent(said, n[0]);
+    return true;
+}
+
+static bool write_change(struct rest r) {
+    uint32_t n[7];
+    if (!room_and_values(r, 6, n) || n[1] > UINT8_MAX) return false;
+    struct beak_change e = change(n + 1);
+    memset(bytes, 0xA5, n[0]);
+    mark();
+    struct beak_said said = beak_write_change(e, bytes, n[0]);
+    mark();
+    print_lent(said, n[0]);
+    return true;
+}
+
 static bool line(struct rest r) {
     if (passes(&r, "save")) return save(r);
     if (passes(&r, "load")) return load(r);
     if (passes(&r, "reports")) return reports(r);
+    if (passes(&r, "message")) return message(r);
+    if (passes(&r, "default")) return write_default(r);
+    if (passes(&r, "request")) return write_request(r);
+    if (passes(&r, "change")) return write_change(r);
     if (passes(&r, "state")) {
         if (ends(r)) print_state();
         return ends(r);

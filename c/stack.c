@@ -1,5 +1,5 @@
 /* How much stack each call takes, with the copies of beak.h: it is made on a stack that was painted before, and from the deepest byte that is
- * no longer paint on it is counted. Of each call the case that goes deepest: the whole tree taken or given back, or a full house. */
+ * no longer paint on it is counted. Of each call the case that goes deepest: the whole tree taken or given back, a full house, an allowed message. */
 #include <stdio.h>
 #include <string.h>
 #include <ucontext.h>
@@ -9,6 +9,9 @@ enum { PAINT = 0xA5 };
 
 static struct beak s;
 static struct beak_said said;
+static struct beak_read was;
+static const struct beak_subrates widest = {1, 500, 0, 499, 3200};
+static const struct beak_change changed = {0, 3839, 500, 0, 499, 3200};
 static struct beak_sample cycle[64];
 static uint32_t answers[64];
 static uint8_t image[1290], painted[65536];
@@ -29,6 +32,14 @@ static void save(void) {
     said = beak_save(&s, image, sizeof image);
     size = said.first;
 }
+
+static void message(void) { was = beak_read_message(image, size); }
+static void write_default(void) { said = beak_write_default(widest, image, sizeof image); }
+static void write_request(void) {
+    said = beak_write_request(3839, widest, image, sizeof image);
+    size = said.first;
+}
+static void write_change(void) { said = beak_write_change(changed, image, sizeof image); }
 
 static void fresh(void) { beak_start(&s); }
 
@@ -79,5 +90,10 @@ int main(void) {
     measure("anchor", "of a live connection", anchor);
     measure("save", "64 live", save);
     measure("load", "64 live", load);
+    write_request();
+    measure("message", "a request", message);
+    measure("default", "written", write_default);
+    measure("request", "written", write_request);
+    measure("change", "written", write_change);
     return 0;
 }

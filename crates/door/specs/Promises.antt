@@ -3,8 +3,7 @@ use Prim.Native.Nat.{ℕ}
 use mathlib.Core.Path.{_≡_}
 use mathlib.Core.List.{List}
 use Rattle.rules.specs.Good.{Good}
-use Rattle.rules.specs.Answers.{Outcome, Listed}
-use Rattle.rules.specs.Save.{Written}
+use Rattle.rules.specs.Answers.{Outcome, Listed, Written}
 use Rattle.door.specs.declared.Said.{Said}
 use Rattle.door.specs.declared.Called.{Called}
 use Rattle.door.specs.Numbers.{inNumbers, InNumbers}
@@ -27,7 +26,7 @@ pub record Lists (o : Listed) (after : List ℕ) (r : Called) : Type 0 where
   pub leaves : Leaves (withoutList o) r
   pub list : after ≡ o .list
 
--- A save: the answer and every byte of the buffer are the rule's.
+-- A call that writes into a buffer: the answer and every byte of the buffer are the rule's.
 pub record Writes (w : Written) (after : List ℕ) (r : Said) : Type 0 where
   pub says : InNumbers (w .answer) r
   pub bytes : after ≡ w .buffer

@@ -3,6 +3,7 @@
 mod asking;
 mod changing;
 mod imaging;
+mod messaging;
 mod saying;
 
 pub use asking::beak_anchored;
@@ -14,7 +15,13 @@ pub use changing::beak_reported;
 pub use changing::beak_reported_all;
 pub use imaging::beak_loaded;
 pub use imaging::beak_saved;
+pub use messaging::beak_change_written;
+pub use messaging::beak_default_written;
+pub use messaging::beak_message_read;
+pub use messaging::beak_request_written;
 use rules::Schedule;
+use rules::SubrateChange;
+use rules::Subrates;
 
 /// An answer in numbers: its kind, and its values in the rule sheet's order, 0 where it has none: specs/Numbers.
 #[repr(C)]
@@ -30,4 +37,13 @@ pub struct Said {
 pub struct Called {
     pub said: Said,
     pub schedule: Schedule,
+}
+
+/// What was read: the answer in numbers, and the values of the message that it is, zeros where it has none.
+#[repr(C)]
+pub struct Read {
+    pub said: Said,
+    pub handle: u16,
+    pub subrates: Subrates,
+    pub change: SubrateChange,
 }

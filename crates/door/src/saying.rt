@@ -1,17 +1,22 @@
 //! What each answer is in numbers.
 ghost use mathlib.Core.Path.{_≡_};
 ghost use Rattle.rules.specs.Refusals.{number};
-ghost use Rattle.rules.specs.Answers.{refused as refusedWith, saved as savedAs, ofAdmission, ofDropping, ofReporting, ofReportingAll, ofOwnership, ofDistance, ofLoading};
-ghost use Rattle.door.specs.Numbers.{saidAs, InNumbers};
+ghost use Rattle.rules.specs.Answers.{refused as refusedWith, saved as savedAs, wrote as wroteAs, ofAdmission, ofDropping, ofReporting, ofReportingAll, ofOwnership, ofDistance, ofLoading, ofReading};
+ghost use Rattle.door.specs.Numbers.{saidAs, InNumbers, messageParts, inParts};
+use crate::Read;
 use crate::Said;
 use rules::Admission;
 use rules::Distance;
 use rules::Dropping;
 use rules::Loading;
+use rules::Message;
 use rules::Ownership;
+use rules::Reading;
 use rules::Refusal;
 use rules::Reporting;
 use rules::ReportingAll;
+use rules::SubrateChange;
+use rules::Subrates;
 use text::refusal_number;
 
 // The kinds of an answer, numbered for ever: a later one comes at the end.
@@ -40,6 +45,32 @@ const SAVED: u32 = 11;
 const LOADED: u32 = 12;
 
 const REPORTED: u32 = 13;
+
+const DEFAULT: u32 = 14;
+
+const REQUEST: u32 = 15;
+
+const CHANGE: u32 = 16;
+
+const WROTE: u32 = 17;
+
+// The values of a message that there are none of.
+const NO_SUBRATES: Subrates = Subrates {
+    min: 0,
+    max: 0,
+    latency: 0,
+    continuation: 0,
+    timeout: 0,
+};
+
+const NO_CHANGE: SubrateChange = SubrateChange {
+    status: 0,
+    handle: 0,
+    factor: 0,
+    latency: 0,
+    continuation: 0,
+    timeout: 0,
+};
 
 // An answer with one value, or with none.
 fn say(kind: u32, first: u32) -> Said
@@ -139,4 +170,50 @@ pub fn loading(answer: Loading) -> Said
         Loading::Count(n) => say(LOADED, n as u32),
         Loading::Refused(r) => refused(r),
     }
+}
+
+fn message_parts(message: Message) -> Read
+    ensures { λ r. ⌜ r ≡ messageParts message ⌝ }
+{
+    match message {
+        Message::Default(subrates) => Read {
+            said: say(DEFAULT, 0),
+            handle: 0,
+            subrates,
+            change: NO_CHANGE,
+        },
+        Message::Request(handle, subrates) => Read {
+            said: say(REQUEST, 0),
+            handle,
+            subrates,
+            change: NO_CHANGE,
+        },
+        Message::Change(change) => Read {
+            said: say(CHANGE, 0),
+            handle: 0,
+            subrates: NO_SUBRATES,
+            change,
+        },
+    }
+}
+
+pub fn reading(answer: Reading) -> Read
+    ensures { λ r. ⌜ r ≡ inParts (ofReading answer) ⌝ }
+{
+    match answer {
+        Reading::Is(message) => message_parts(message),
+        Reading::Refused(r) => Read {
+            said: refused(r),
+            handle: 0,
+            subrates: NO_SUBRATES,
+            change: NO_CHANGE,
+        },
+    }
+}
+
+// The size of what was written, which fits: a message has 15 bytes at most.
+pub fn wrote(size: u32) -> Said
+    ensures { λ r. ⌜ InNumbers (wroteAs size) r ⌝ }
+{
+    say(WROTE, size)
 }

@@ -1,6 +1,7 @@
 -- `door::imaging::beak_saved` meets its contract: the size fits, and the bytes are the rule's.
 use mathlib.Core.Path.{ap}
 use Rattle.rules.specs.Answers.{ofSaving}
+use Rattle.rules.specs.Save.{save}
 use Rattle.image.proofs.Calls.{saved-fits}
 use Rattle.door.proofs.Writing.{writes}
 use borrow.Author.Needs.{needs}
@@ -35,7 +36,7 @@ returns : tie.Need-returns
 returns c =
     let start = c .before .before .before .before .before .before .before .before .before in
     let done = c .before .before .before .before .before .before .save in
-    writes (start .args .s) (start .args .buffer .now) (done .last .1 .0) (done .result) _ (c .saved .result) (done .ensures) (c .before .before .answer .given .1) (c .saved .ensures)
+    writes ofSaving (save (start .args .s) (start .args .buffer .now)) (done .last .1 .0) (done .result) _ (c .saved .result) (done .ensures) (c .before .before .answer .given .1) (c .saved .ensures)
 
 same-length-2 : tie.Need-same-length-2
 same-length-2 c = search needs
@@ -44,7 +45,7 @@ returns-2 : tie.Need-returns-2
 returns-2 c =
     let start = c .before .before .before .before .before .before .before .before .before in
     let done = c .before .before .before .before .before .before .save in
-    writes (start .args .s) (start .args .buffer .now) (done .last .1 .0) (done .result) _ (c .refused .result) (done .ensures) (c .before .before .answer2 .given .1) (c .refused .ensures)
+    writes ofSaving (save (start .args .s) (start .args .buffer .now)) (done .last .1 .0) (done .result) _ (c .refused .result) (done .ensures) (c .before .before .answer2 .given .1) (c .refused .ensures)
 
 pub beak-saved-spec : {M : Type 1} → statement M
 beak-saved-spec =
