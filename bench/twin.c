@@ -301,6 +301,91 @@ __attribute__((noinline)) static int load(struct schedule *s, const uint8_t *byt
     return 0;
 }
 
+// ---- messages
+
+enum { DEFAULT_HEAD = 0x0a207d, REQUEST_HEAD = 0x0c207e, CHANGE_HEAD = 0x230c3e }; // the first three bytes as a number
+enum { DEFAULT_SIZE = 13, REQUEST_SIZE = 15, CHANGE_SIZE = 14 };
+enum { LARGEST_HANDLE = 3839 };
+
+struct subrates {
+    uint16_t min, max, latency, continuation, timeout;
+};
+
+struct change {
+    uint8_t status;
+    uint16_t handle, factor, latency, continuation, timeout;
+};
+
+struct message {
+    enum { DEFAULT, REQUEST, CHANGE } kind;
+    uint16_t handle;          // of a request
+    struct subrates subrates; // of a command
+    struct change change;     // of an event
+};
+
+// What this tests implies the other ends.
+static bool is_subrating(uint32_t factor, uint32_t latency, uint32_t continuation, uint32_t timeout) {
+    return timeout >= 10 && timeout <= 3200 && continuation < factor && factor * (latency + 1) <= 500;
+}
+
+static bool are_subrates(struct subrates v) {
+    return v.min != 0 && v.min <= v.max && is_subrating(v.max, v.latency, v.continuation, v.timeout);
+}
+
+static bool is_change(struct change e) {
+    return e.status != 0 || (e.handle <= LARGEST_HANDLE && is_subrating(e.factor, e.latency, e.continuation, e.timeout));
+}
+
+static bool is_allowed(const struct message *m) {
+    if (m->kind == CHANGE) return is_change(m->change);
+    return (m->kind == DEFAULT || m->handle <= LARGEST_HANDLE) && are_subrates(m->subrates);
+}
+
+static struct subrates subrates_at(const uint8_t *at) {
+    return (struct subrates){number(at, 2), number(at + 2, 2), number(at + 4, 2), number(at + 6, 2), number(at + 8, 2)};
+}
+
+static struct change change_at(const uint8_t *at) {
+    return (struct change){at[0], number(at + 1, 2), number(at + 3, 2), number(at + 5, 2), number(at + 7, 2), number(at + 9, 2)};
+}
+
+static bool is_message(const uint8_t *bytes, size_t size, uint32_t head, size_t whole) { return size == whole && number(bytes, 3) == head; }
+
+__attribute__((noinline)) static int read_message(const uint8_t *bytes, size_t size, struct message *out) {
+    if (is_message(bytes, size, DEFAULT_HEAD, DEFAULT_SIZE))
+        *out = (struct message){.kind = DEFAULT, .subrates = subrates_at(bytes + 3)};
+    else if (is_message(bytes, size, REQUEST_HEAD, REQUEST_SIZE))
+        *out = (struct message){.kind = REQUEST, .handle = number(bytes + 3, 2), .subrates = subrates_at(bytes + 5)};
+    else if (is_message(bytes, size, CHANGE_HEAD, CHANGE_SIZE))
+        *out = (struct message){.kind = CHANGE, .change = change_at(bytes + 3)};
+    else
+        return 16;
+    return is_allowed(out) ? 0 : 17;
+}
+
+static void put_subrates(uint8_t *at, struct subrates v) {
+    put(put(put(put(put(at, 2, v.min), 2, v.max), 2, v.latency), 2, v.continuation), 2, v.timeout);
+}
+
+static void put_change(uint8_t *at, struct change e) {
+    at = put(put(put(at, 1, e.status), 2, e.handle), 2, e.factor);
+    put(put(put(at, 2, e.latency), 2, e.continuation), 2, e.timeout);
+}
+
+__attribute__((noinline)) static int write_message(const struct message *m, uint8_t *buffer, size_t room, size_t *size) {
+    static const size_t sizes[] = {DEFAULT_SIZE, REQUEST_SIZE, CHANGE_SIZE};
+    if (!is_allowed(m)) return 17;
+    *size = sizes[m->kind];
+    if (room < *size) return 8;
+    if (m->kind == DEFAULT)
+        put_subrates(put(buffer, 3, DEFAULT_HEAD), m->subrates);
+    else if (m->kind == REQUEST)
+        put_subrates(put(put(buffer, 3, REQUEST_HEAD), 2, m->handle), m->subrates);
+    else
+        put_change(put(buffer, 3, CHANGE_HEAD), m->change);
+    return 0;
+}
+
 // ---- the script
 
 static char script[65537];
@@ -327,6 +412,79 @@ static void perform_list(struct schedule *s, const char *line) {
     for (size_t i = 0; i < entries; i++) at += sprintf(said + at, " %u", list[i]);
     sprintf(said + at, "\n");
     tell(said);
+}
+
+static void tell_message(const struct message *m) {
+    const struct subrates *v = &m->subrates;
+    const struct change *e = &m->change;
+    char said[64];
+    if (m->kind == DEFAULT)
+        sprintf(said, "default %u %u %u %u %u\n", v->min, v->max, v->latency, v->continuation, v->timeout);
+    else if (m->kind == REQUEST)
+        sprintf(said, "request %u %u %u %u %u %u\n", m->handle, v->min, v->max, v->latency, v->continuation, v->timeout);
+    else
+        sprintf(said, "change %u %u %u %u %u %u\n", e->status, e->handle, e->factor, e->latency, e->continuation, e->timeout);
+    tell(said);
+}
+
+static void tell_refused(int no) {
+    char said[16];
+    sprintf(said, "no %d\n", no);
+    tell(said);
+}
+
+// A line `message` or `message HEX`, after its word.
+static void perform_reading(const char *line) {
+    struct message m;
+    unsigned byte;
+    size_t size = 0;
+    for (int used = 0; sscanf(line, "%2x%n", &byte, &used) == 1; line += used) bytes[size++] = byte;
+    mark();
+    int no = read_message(bytes, size, &m);
+    mark();
+    if (no == 0)
+        tell_message(&m);
+    else
+        tell_refused(no);
+}
+
+// Whether a line writes a message: into how much room, and which.
+static bool writes(const char *line, size_t *room, struct message *m) {
+    struct subrates *v = &m->subrates;
+    struct change *e = &m->change;
+    m->kind = DEFAULT;
+    if (sscanf(line, "default %zu %hu %hu %hu %hu %hu", room, &v->min, &v->max, &v->latency, &v->continuation, &v->timeout) == 6) return true;
+    m->kind = REQUEST;
+    if (sscanf(line, "request %zu %hu %hu %hu %hu %hu %hu", room, &m->handle, &v->min, &v->max, &v->latency, &v->continuation, &v->timeout) == 7) return true;
+    m->kind = CHANGE;
+    return sscanf(line, "change %zu %hhu %hu %hu %hu %hu %hu", room, &e->status, &e->handle, &e->factor, &e->latency, &e->continuation, &e->timeout) == 7;
+}
+
+static void perform_writing(const struct message *m, size_t room) {
+    char said[32];
+    size_t size;
+    mark();
+    int no = write_message(m, bytes, room, &size);
+    mark();
+    if (no != 0) {
+        tell_refused(no);
+        return;
+    }
+    sprintf(said, "wrote %zu\n", size);
+    tell(said);
+}
+
+// Whether it is a line of a message, which is then performed.
+static bool perform_message(const char *line) {
+    struct message m;
+    size_t room;
+    if (strncmp(line, "message", 7) == 0)
+        perform_reading(line + 7);
+    else if (writes(line, &room, &m))
+        perform_writing(&m, room);
+    else
+        return false;
+    return true;
 }
 
 static void perform(struct schedule *s, char *line) {
@@ -379,6 +537,8 @@ static void perform(struct schedule *s, char *line) {
         no = load(s, bytes, size, &a);
         mark();
         sprintf(said, "loaded %u\n", a);
+    } else if (perform_message(line)) {
+        return;
     } else {
         mark();
         mark();

@@ -9,9 +9,13 @@ ghost use Rattle.rules.specs.Good.{Good};
 ghost use Rattle.answer.specs.Promises.{SizeFits};
 ghost use Rattle.lists.specs.Lines.{mostEntries};
 use answer::put_loading;
+use answer::put_reading;
 use answer::put_reply;
 use answer::put_reporting_all;
 use answer::put_saving;
+use answer::put_writing;
+use hci::read_message;
+use hci::write_message;
 use image::load;
 use image::save;
 use input::Input;
@@ -23,7 +27,6 @@ use lists::LONGEST_ROW;
 use lists::MOST_ENTRIES;
 use lists::asked_of;
 use lists::blank;
-use lists::put_list;
 use order::Order;
 use order::order_of;
 use questions::anchor;
@@ -32,7 +35,9 @@ use reports::report_pairs;
 use rules::Command;
 use rules::LEAST_INTERVAL;
 use rules::LONGEST_ANSWER;
+use rules::LONGEST_MESSAGE;
 use rules::Loading;
+use rules::Message;
 use rules::Reply;
 use rules::ReportingAll;
 use rules::Saving;
@@ -43,9 +48,12 @@ use schedule::fresh;
 use schedule::report;
 use show::end;
 use show::word;
+use talk::Asked as MessageAsked;
+use talk::asked_of as message_asked;
 use text::Row;
 use text::find;
 use text::opens;
+use text::put_row;
 use text::read_row;
 
 // The place after `singly`: the word's length.
@@ -83,7 +91,7 @@ fn tell_list(answer: ReportingAll, list: &[u32])
 {
     let mut out = [0u8; LONGEST_LINE];
     let at = put_reporting_all(&mut out, 0, answer);
-    let count = put_list(&mut out, at, list);
+    let count = put_row(&mut out, at, list);
     word(&out[..count]);
     end();
 }
@@ -204,6 +212,26 @@ fn loaded(s: Schedule, bytes: &[u8]) -> Schedule
     left
 }
 
+fn read(bytes: &[u8]) {
+    mark();
+    let answer = read_message(bytes);
+    mark();
+    let mut out = [0u8; LONGEST_MESSAGE];
+    let count = put_reading(&mut out, 0, answer);
+    word(&out[..count]);
+    end();
+}
+
+fn wrote(message: Message, buffer: &mut [u8]) {
+    mark();
+    let answer = write_message(message, buffer);
+    mark();
+    let mut out = [0u8; LONGEST_ANSWER];
+    let count = put_writing(&mut out, 0, answer);
+    word(&out[..count]);
+    end();
+}
+
 fn obeyed(s: Schedule, command: Command) -> Schedule
     requires { ⌜ Good s ⌝ }
     ensures { λ r. ⌜ Good r ⌝ }
@@ -297,6 +325,19 @@ fn perform_singly(s: Schedule, line: &[u8]) -> Schedule
     one_by_one(s, &numbers[..count])
 }
 
+// A line that reads or writes a message; or it is none.
+fn perform_message(line: &[u8], bytes: &mut [u8]) -> bool
+    requires { ⌜ (length (now line) ≤ 65536) × (32768 ≤ length (now bytes)) ⌝ }
+{
+    match message_asked(line, bytes) {
+        MessageAsked::Read(n) => read(&bytes[..n]),
+        MessageAsked::Write(n, message) => wrote(message, &mut bytes[..n]),
+        MessageAsked::Bad => nothing(),
+        MessageAsked::Other => return false,
+    }
+    true
+}
+
 fn perform_line(s: Schedule, line: &[u8], bytes: &mut [u8]) -> Schedule
     requires { ⌜ Good s × (length (now line) ≤ 65536) × (32768 ≤ length (now bytes)) ⌝ }
     ensures { λ r. ⌜ Good r ⌝ }
@@ -306,6 +347,9 @@ fn perform_line(s: Schedule, line: &[u8], bytes: &mut [u8]) -> Schedule
     }
     if opens(line, b"singly") {
         return perform_singly(s, line);
+    }
+    if perform_message(line, bytes) {
+        return s;
     }
     perform(s, line, bytes)
 }

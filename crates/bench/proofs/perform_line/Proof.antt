@@ -1,4 +1,4 @@
--- `bench::perform_line` leaves a good schedule: the line goes to one of the three.
+-- `bench::perform_line` meets its contract: the line goes to the one that it is for.
 use borrow.Author.Needs.{needs}
 use mathlib.Core.Path.{sym, _∙_}
 use Rattle.bench.proofs.perform_line.Statement.{statement}
@@ -28,14 +28,23 @@ perform-singly-requires c κs = (search needs, sym (c .before .opens2 .ensures) 
 returns-2 : tie.Need-returns-2
 returns-2 c = search needs
 
-perform-requires : tie.Need-perform-requires
-perform-requires c κs = search needs
+perform-message-requires : tie.Need-perform-message-requires
+perform-message-requires c κs = search needs
 
 same-length : tie.Need-same-length
 same-length c = search needs
 
 returns-3 : tie.Need-returns-3
 returns-3 c = search needs
+
+perform-requires : tie.Need-perform-requires
+perform-requires c κs = search needs
+
+same-length-2 : tie.Need-same-length-2
+same-length-2 c = search needs
+
+returns-4 : tie.Need-returns-4
+returns-4 c = search needs
 
 pub perform-line-spec : {M : Type 1} → statement M
 perform-line-spec =
@@ -49,6 +58,9 @@ perform-line-spec =
     opens-requires-2
     perform-singly-requires
     returns-2
-    perform-requires
+    perform-message-requires
     same-length
-    returns-3)
+    returns-3
+    perform-requires
+    same-length-2
+    returns-4)

@@ -13,11 +13,11 @@ slice-aggregate-put-reporting-all c = search needs
 put-reporting-all-requires : tie.Need-put-reporting-all-requires
 put-reporting-all-requires c κs = search needs
 
-slice-aggregate-put-list : tie.Need-slice-aggregate-put-list
-slice-aggregate-put-list c = search needs
+slice-aggregate-put-row : tie.Need-slice-aggregate-put-row
+slice-aggregate-put-row c = search needs
 
-put-list-requires : tie.Need-put-list-requires
-put-list-requires c κs = search needs
+put-row-requires : tie.Need-put-row-requires
+put-row-requires c κs = search needs
 
 array-share-prefix-out : tie.Need-array-share-prefix-out
 array-share-prefix-out c = search needs
@@ -31,8 +31,8 @@ slice-aggregate-word c =
     (length-take-le _ _
     (omega (
       arith,
-      list .put-list .ensures .room,
-      puts-length (list .put-list .ensures .puts),
+      list .put-row .ensures .room,
+      puts-length (list .put-row .ensures .puts),
       answer .put-reporting-all .ensures .room,
       puts-length (answer .put-reporting-all .ensures .puts),
       start .pre,
@@ -53,8 +53,8 @@ tell-list-spec =
     (tie.spec
     slice-aggregate-put-reporting-all
     put-reporting-all-requires
-    slice-aggregate-put-list
-    put-list-requires
+    slice-aggregate-put-row
+    put-row-requires
     array-share-prefix-out
     slice-aggregate-word
     word-requires
