@@ -1,4 +1,5 @@
-"""For scripts, from the rule sheet's and the requests' words: images, every block under its owner, every node over its blocks; the factor of a range, over all k."""
+"""For scripts, from the rule sheet's and the requests' words: images, every block under its owner, every node over its blocks; the factor of a range, over all k;
+subrate messages, their bytes and what they may hold."""
 
 
 def tree(connections):
@@ -28,3 +29,25 @@ def image(connections):
 def factor(smallest, largest):
     """Of all 6 × 2^k in a range of intervals, k to 9, the largest one's 2^k, or None."""
     return max((2**k for k in range(10) if smallest <= 6 * 2**k <= largest), default=None)
+
+
+def message(word, *numbers):
+    """The bytes of a default, a request or a change with these numbers, in hexadecimal."""
+    pairs = lambda numbers: b"".join(n.to_bytes(2, "little") for n in numbers).hex()
+    if word == "change":
+        status, *others = numbers
+        return f"3e0c23{status:02x}" + pairs(others)
+    return {"default": "7d200a", "request": "7e200c"}[word] + pairs(numbers)
+
+
+def allowed(word, *numbers):
+    """Whether the Core Specification allows such a message. With a status other than 0 it allows every one."""
+    if word == "change":
+        status, handle, top, latency, continuation, timeout = numbers
+        bottom = top
+    elif word == "request":
+        status, (handle, bottom, top, latency, continuation, timeout) = 0, numbers
+    else:
+        status, handle, (bottom, top, latency, continuation, timeout) = 0, 0, numbers
+    alone = handle <= 3839 and 1 <= bottom <= 500 and 1 <= top <= 500 and latency <= 499 and continuation <= 499 and 10 <= timeout <= 3200
+    return status != 0 or (alone and bottom <= top and top * (latency + 1) <= 500 and continuation < top)

@@ -1,4 +1,4 @@
-//! Sixteen slips, one of which can be planted at a time (`peer --fault N`).
+//! Twenty slips, one of which can be planted at a time (`peer --fault N`).
 //! A comparison that does not find each of them is too weak.
 
 #[derive(Clone, Copy, Debug, PartialEq, Eq)]
@@ -37,10 +37,18 @@ pub enum Fault {
     SmallestLeftOut,
     /// 16: the bounds of a range are read in the other order.
     BoundsExchanged,
+    /// 17: of a message max × latency is to be at most 500, where it is max × (latency + 1).
+    LatencyNotCountedUp,
+    /// 18: an event of another status than 0 is held to the rules.
+    FailedEventHeld,
+    /// 19: bytes after a message are taken.
+    TrailingTaken,
+    /// 20: writing a message checks 8 before 17.
+    ShortBeforeForbidden,
 }
 
 /// The faults by number, 1 first.
-pub const FAULTS: [Fault; 16] = [
+pub const FAULTS: [Fault; 20] = [
     Fault::CountingOrder,
     Fault::TowardZero,
     Fault::FirstPeriodOnly,
@@ -57,9 +65,13 @@ pub const FAULTS: [Fault; 16] = [
     Fault::SmallestNotAsked,
     Fault::SmallestLeftOut,
     Fault::BoundsExchanged,
+    Fault::LatencyNotCountedUp,
+    Fault::FailedEventHeld,
+    Fault::TrailingTaken,
+    Fault::ShortBeforeForbidden,
 ];
 
-/// The fault with this number, 1 to 16.
+/// The fault with this number, 1 to 20.
 pub fn by_number(number: usize) -> Option<Fault> {
     FAULTS.get(number.checked_sub(1)?).copied()
 }

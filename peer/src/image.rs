@@ -136,7 +136,7 @@ fn check_overlap(connections: &Connections) -> Result<(), Refusal> {
 }
 
 /// A little-endian number of at most four bytes.
-fn number(bytes: &[u8]) -> i64 {
+pub(crate) fn number(bytes: &[u8]) -> i64 {
     bytes.iter().rev().fold(0, |value, &byte| 256 * value + i64::from(byte))
 }
 

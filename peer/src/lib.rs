@@ -6,13 +6,15 @@
 //! * `schedule`: the connections, who owns a block, the tree, and the calls.
 //! * `reports`: a list of reports, and the entries that answer them.
 //! * `image`: the image's bytes, written and read back with their checks.
+//! * `messages`: the subrate messages of the Core Specification, read and written.
 //! * `script`: the lines of text that drive it, and their answers.
-//! * `fault`: sixteen slips that can be planted, to show that a comparison finds them.
+//! * `fault`: twenty slips that can be planted, to show that a comparison finds them.
 
 #![forbid(unsafe_code)]
 
 pub mod fault;
 pub mod image;
+pub mod messages;
 pub mod reports;
 pub mod schedule;
 pub mod script;

@@ -2,12 +2,14 @@
 
 use crate::fault::Fault;
 use crate::image;
+use crate::messages::{self, Kind, Message, KINDS};
 use crate::reports::{report_all, Report};
 use crate::schedule::{Moved, Refusal, Schedule, LEAST_INTERVAL};
+use std::fmt::Display;
 
 /// A script has at most this many bytes.
 pub const LONGEST_SCRIPT: usize = 65_536;
-/// `save N` lends at most this many bytes.
+/// `save N`, and a line that writes a message, lends at most this many bytes.
 pub const LARGEST_BUFFER: i64 = 2_048;
 /// What a lent buffer holds before.
 pub const FILLING: u8 = 0xA5;
@@ -56,13 +58,18 @@ impl Session {
         let mut words = line.split(|&byte| byte == b' ');
         let word = words.next()?;
         let rest: Vec<&[u8]> = words.collect();
-        if word == b"load" {
-            return self.load(&rest);
+        match word {
+            b"load" => return self.load(&rest),
+            b"message" => return read(&rest, self.schedule.fault),
+            _ => {}
         }
 
         let mut numbers = Vec::new();
         for digits in rest {
             numbers.push(decimal(digits, self.schedule.fault)?);
+        }
+        if let Some(kind) = KINDS.into_iter().find(|kind| kind.word().as_bytes() == word) {
+            return write_into(kind, &numbers, self.schedule.fault);
         }
         let schedule = &mut self.schedule;
         let answer = match (word, numbers.as_slice()) {
@@ -110,12 +117,7 @@ impl Session {
 
     /// `load` alone or `load HEX`.
     fn load(&mut self, rest: &[&[u8]]) -> Option<String> {
-        let bytes = match rest {
-            [] => Vec::new(),
-            [digits] => unhex(digits)?,
-            _ => return None,
-        };
-        match image::load(&bytes, self.schedule.fault) {
+        match image::load(&lone_bytes(rest)?, self.schedule.fault) {
             Ok(loaded) => {
                 self.schedule = loaded;
                 Some(format!("loaded {}", self.schedule.live().count()))
@@ -146,10 +148,38 @@ fn save_into(schedule: &Schedule, size: i64) -> String {
         Ok(size) => format!("saved {size}"),
         Err(refusal) => no(refusal),
     };
+    with_buffer(answer, &buffer)
+}
+
+/// `message` alone or `message HEX`: the word and the numbers of the message.
+fn read(rest: &[&[u8]], fault: Fault) -> Option<String> {
+    match messages::read(&lone_bytes(rest)?, fault) {
+        Ok(message) => Some(message.kind.word().to_string() + &listed(&message.numbers)),
+        Err(refusal) => Some(no(refusal)),
+    }
+}
+
+/// `default N ..`, `request N ..`, `change N ..`: the answer, and the whole buffer afterwards.
+fn write_into(kind: Kind, numbers: &[i64], fault: Fault) -> Option<String> {
+    let (&size, numbers) = numbers.split_first()?;
+    let message = Message::new(kind, numbers)?;
+    if size > LARGEST_BUFFER {
+        return None;
+    }
+    let mut buffer = vec![FILLING; size as usize];
+    let answer = match messages::write(&message, &mut buffer, fault) {
+        Ok(size) => format!("wrote {size}"),
+        Err(refusal) => no(refusal),
+    };
+    Some(with_buffer(answer, &buffer))
+}
+
+/// An answer, and behind it a lent buffer as it is afterwards, if it has a byte.
+fn with_buffer(answer: String, buffer: &[u8]) -> String {
     if buffer.is_empty() {
         answer
     } else {
-        format!("{answer} {}", hex(&buffer))
+        format!("{answer} {}", hex(buffer))
     }
 }
 
@@ -161,14 +191,11 @@ fn reports(schedule: &mut Schedule, entries: i64, numbers: &[i64]) -> Option<Str
     let list: Vec<Report> =
         numbers.chunks(2).map(|pair| Report { handle: pair[0], sample: pair[1] }).collect();
     let mut answers = vec![UNTOUCHED; entries as usize];
-    let mut answer = match report_all(schedule, &list, &mut answers) {
+    let answer = match report_all(schedule, &list, &mut answers) {
         Ok(made) => format!("reported {made}"),
         Err(refusal) => no(refusal),
     };
-    for entry in answers {
-        answer += &format!(" {entry}");
-    }
-    Some(answer)
+    Some(answer + &listed(&answers))
 }
 
 /// `state`: a line for each live connection, then `end`.
@@ -185,6 +212,11 @@ fn state(schedule: &Schedule) -> String {
 
 fn no(refusal: Refusal) -> String {
     format!("no {refusal}")
+}
+
+/// Numbers, one space before each.
+fn listed(numbers: &[impl Display]) -> String {
+    numbers.iter().map(|number| format!(" {number}")).collect()
 }
 
 /// A decimal number: digits only, no leading zero save `0`, at most 2^32 − 1.
@@ -212,6 +244,15 @@ fn decimal(digits: &[u8], fault: Fault) -> Option<i64> {
 /// Bytes as lower-case hexadecimal digits.
 pub fn hex(bytes: &[u8]) -> String {
     bytes.iter().map(|byte| format!("{byte:02x}")).collect()
+}
+
+/// The bytes of a word that stands alone or has digits behind it.
+fn lone_bytes(rest: &[&[u8]]) -> Option<Vec<u8>> {
+    match rest {
+        [] => Some(Vec::new()),
+        [digits] => unhex(digits),
+        _ => None,
+    }
 }
 
 /// One pair or more of lower-case hexadecimal digits as bytes.
@@ -283,6 +324,31 @@ mod tests {
         assert_eq!(right("reports 01\nreports 1 0 00\nreports 1 0 x\n"), "bad\n".repeat(3));
         let many = |reports: usize| format!("reports 0{}\n", " 0 0".repeat(reports));
         assert_eq!(right(&(many(128) + &many(129))), "no 13\nbad\n");
+    }
+
+    #[test]
+    fn messages_of_numbers_and_of_bytes() {
+        assert_eq!(
+            right("message 7d200a0100f401000000000a00\nrequest 15 1 8 8 0 1 600\n"),
+            "default 1 500 0 0 10\nwrote 15 7e200c010008000800000001005802\n"
+        );
+        assert_eq!(
+            right("change 15 0 1 8 0 1 600\nchange 14 1 65535 0 0 0 0\n"),
+            "wrote 14 3e0c230001000800000001005802a5\nwrote 14 3e0c2301ffff0000000000000000\n"
+        );
+        assert_eq!(
+            right("default 2 1 500 1 0 10\ndefault 2 1 500 0 0 10\ndefault 0 1 500 0 0 10\n"),
+            "no 17 a5a5\nno 8 a5a5\nno 8\n"
+        );
+        assert_eq!(
+            right("message\nmessage 7d\nmessage 7d200a0100f401010000000a00\n"),
+            "no 16\nno 16\nno 17\n"
+        );
+        assert_eq!(right("message \nmessage 7\nmessage 7D\nmessage 7d 20\n"), "bad\n".repeat(4));
+        let bad = "default\ndefault 13\ndefault 13 1 1 0 0\ndefault 13 1 1 0 0 10 0\n\
+                   default 2049 1 1 0 0 10\ndefault 13 1 1 0 0 65536\nrequest 15 65536 1 1 0 0 10\n\
+                   change 14 256 1 1 0 0 10\nchange 14 0 1 1 0 0\nrequest 15 01 1 1 0 0 10\n";
+        assert_eq!(right(bad), "bad\n".repeat(10));
     }
 
     #[test]

@@ -3,10 +3,12 @@
 use crate::images;
 use crate::lines;
 use crate::lists;
+use crate::messages;
 use crate::random::Random;
 use crate::ranges;
 use crate::sheet::Sheet;
 use peer::image::image;
+use peer::messages::{Kind, Message, KINDS};
 use peer::script::{hex, LONGEST_SCRIPT};
 
 /// Script number `number` (from 1) of the series `seed`.
@@ -37,16 +39,18 @@ fn realistic(sheet: &mut Sheet, turn: usize) {
     }
     lists_in_turn(sheet, turn);
     every_range(sheet);
+    there_and_back(sheet, &messages::at_the_ends(kind_in_turn(turn)));
     sheet.say("save");
 }
 
 fn day(sheet: &mut Sheet) {
-    match sheet.random.between(0, 20) {
+    match sheet.random.between(0, 21) {
         0..=9 => sheet.do_one(lines::plausible_report),
         10..=14 => sheet.do_one(lines::question),
         15 => sheet.do_one(lines::join),
         16 => sheet.do_one(lines::leave),
         17 => sheet.do_one(lists::of_the_live),
+        18 => sheet.do_one(|random, _| messages::any(random)),
         _ => sheet.do_one(lines::show),
     };
 }
@@ -80,9 +84,26 @@ fn every_range(sheet: &mut Sheet) {
     }
 }
 
-/// The cases that the rule sheet itself names, and such of ranges, each on a fresh schedule.
+fn kind_in_turn(turn: usize) -> Kind {
+    KINDS[turn % KINDS.len()]
+}
+
+/// Each of these is written and its bytes are read; what was read is written again.
+fn there_and_back(sheet: &mut Sheet, messages: &[Message]) {
+    for message in messages {
+        let size = messages::buffer(&mut sheet.random, message.kind.size());
+        sheet.say(messages::writing(size, message));
+        let read = sheet.say(messages::reading(&message.bytes()));
+        if let Some(line) = messages::again(message.kind.size(), &read) {
+            sheet.say(line);
+        }
+    }
+    sheet.say("state");
+}
+
+/// The cases that the rule sheet itself names, and such of the requests, each on a fresh schedule.
 #[rustfmt::skip]
-const NAMED: [&[&str]; 8] = [
+const NAMED: [&[&str]; 9] = [
     &["admit 0 48 1 4", "admit 1 48 1 1", "report 0 7500", "owner 9", "owner 7", "anchor 1 6",
         "admit 2 6 1 1", "drop 5"],
     &["admit 0 48 1 1", "admit 1 48 1 1", "admit 2 48 1 1", "admit 3 48 1 1", "admit 4 12 1 1",
@@ -98,6 +119,8 @@ const NAMED: [&[&str]; 8] = [
     &["admit 0 48 1 4", "reports 2 0 7500 9 0 0 7500", "reports 4 0 7500 9 0 0 7500", "reports 0"],
     &["admit 0 48 1 4 5", "admit 0 12 30 1 1", "admit 1 13 23 1 1", "admit 1 30 12 1 1",
         "admit 1 6 48 1 1", "drop 1", "admit 1 48 1 1"],
+    &["message 7d200a0100f401000000000a00", "request 15 1 8 8 0 1 600", "change 15 0 1 8 0 1 600",
+        "change 14 1 65535 0 0 0 0", "default 2 1 500 1 0 10", "default 2 1 500 0 0 10"],
 ];
 
 /// (b) The house is filled until there is no room, thinned, and filled again.
@@ -137,6 +160,8 @@ fn dense(sheet: &mut Sheet, turn: usize) {
     }
     fill(sheet);
     sheet.say("state");
+    let messages = messages::at_the_rules(&mut sheet.random, kind_in_turn(turn));
+    there_and_back(sheet, &messages);
     sheet.say("save");
 }
 
@@ -190,7 +215,7 @@ fn push_and_let_go(sheet: &mut Sheet) {
 
 /// Lines that are bad whatever the schedule holds.
 #[rustfmt::skip]
-const BAD: [&[u8]; 90] = [
+const BAD: [&[u8]; 126] = [
     b"", b" ", b"  ", b"\t", b"\r", b"\0", b"\xff", b"0", b"48", b"#", b"help", b"ok", b"bad",
     b"a", b"ad", b"admi", b"admit", b"admit ", b"admit 0", b"admit 0 48", b"admit 0 48 1",
     b"admit 0 48 1 ", b"admit 0 6 48 1 4 5", b"admit0 48 1 4", b"admit,0,48,1,4",
@@ -204,6 +229,15 @@ const BAD: [&[u8]; 90] = [
     b"ancho", b"anchor", b"anchor 0", b"anchor 0 1 2", b"anchor0 1", b"fres", b"fresh ",
     b"fresh 0", b"Fresh", b"freshfresh", b"sav", b"save ", b"save 2049", b"save 4294967295",
     b"save 0 0", b"save a5", b"savesave", b"load ", b"loads", b"stat", b"state ", b"state 0",
+    b"messag", b"message ", b"message 7", b"message 7D", b"message 7d ", b"message  7d",
+    b"message 7d 20", b"message 0x7d", b"message7d", b"messages", b"Message", b"message\t7d",
+    b"defaul", b"default", b"default ", b"default 13", b"default 13 1 8 0 0",
+    b"default 13 1 8 0 0 10 ", b"default 13 1 8 0 0 10 10", b"default 2049 1 8 0 0 10",
+    b"default 13 65536 8 0 0 10", b"default 13 1 8 0 0 65536", b"default 13 1 8 0 -1 10",
+    b"Default 13 1 8 0 0 10", b"default13 1 8 0 0 10", b"request", b"request 15 1 8 8 0 0",
+    b"request 15 1 8 8 0 0 10 10", b"request 2049 1 8 8 0 0 10", b"request 15 65536 8 8 0 0 10",
+    b"requests 15 1 8 8 0 0 10", b"change", b"change 14 0 1 8 0 0", b"change 14 256 1 8 0 0 10",
+    b"change 14 0 65536 8 0 0 10", b"change 4294967295 0 1 8 0 0 10",
 ];
 
 /// Numbers that are not numbers of the language.
@@ -221,7 +255,7 @@ fn hostile(sheet: &mut Sheet, turn: usize) {
     }
     let mut list: Vec<&[u8]> = BAD.to_vec();
     sheet.random.shuffle(&mut list);
-    list.truncate(40);
+    list.truncate(50);
     for bad in list {
         sheet.say(bad);
         match sheet.random.between(0, 9) {
@@ -231,7 +265,11 @@ fn hostile(sheet: &mut Sheet, turn: usize) {
                 sheet.say(spoilt);
             }
             5 => {
-                let line = if sheet.random.chance(50) { bad_load(sheet) } else { bad_list(sheet) };
+                let line = match sheet.random.between(0, 2) {
+                    0 => bad_load(sheet),
+                    1 => bad_list(sheet),
+                    _ => bad_message(sheet),
+                };
                 sheet.say(line);
             }
             6 => drop(sheet.say("state")),
@@ -243,6 +281,7 @@ fn hostile(sheet: &mut Sheet, turn: usize) {
     }
     lists_in_turn(sheet, turn);
     every_range(sheet);
+    damaged_messages(sheet, turn);
     sheet.say("save");
 
     // Whole scripts that are nearly nothing.
@@ -311,8 +350,12 @@ fn spoil(random: &mut Random, line: Vec<u8>) -> Vec<u8> {
 
 /// A `load` line with something wrong in its digits; the image itself is good.
 fn bad_load(sheet: &mut Sheet) -> Vec<u8> {
-    let random = &mut sheet.random;
-    let mut digits = hex(&image(&sheet.session.schedule)).into_bytes();
+    bad_digits(&mut sheet.random, b"load ", &image(&sheet.session.schedule))
+}
+
+/// This word and these bytes, or some of them, with something wrong in the digits.
+fn bad_digits(random: &mut Random, word: &[u8], bytes: &[u8]) -> Vec<u8> {
+    let mut digits = hex(bytes).into_bytes();
     digits.truncate(random.pick(&[2, 8, 60, 20_000]));
     match random.between(0, 9) {
         0 => digits.push(b'0'),
@@ -329,7 +372,7 @@ fn bad_load(sheet: &mut Sheet) -> Vec<u8> {
         8 => digits = b"g0".to_vec(),
         _ => digits.extend(b" 0"),
     }
-    [b"load ".as_slice(), &digits].concat()
+    [word, &digits].concat()
 }
 
 /// A `reports` line with too many entries or reports, an odd number left, or a number that is none.
@@ -354,7 +397,35 @@ fn bad_list(sheet: &mut Sheet) -> Vec<u8> {
     line.into_bytes()
 }
 
-/// (d) Images, good and damaged, and saves into buffers of all sizes.
+/// A line with a message: something wrong in the digits, a number too many, missing, or too large.
+fn bad_message(sheet: &mut Sheet) -> Vec<u8> {
+    let random = &mut sheet.random;
+    let kind = random.pick(&KINDS);
+    let message = messages::of_kind(random, kind);
+    let line = messages::writing(random.pick(&[0, 14, 2_048]), &message);
+    let mut words: Vec<&str> = line.split(' ').collect();
+    match random.between(0, 6) {
+        0 => return bad_digits(random, b"message ", &message.bytes()),
+        1 => words.push("0"),
+        2 => drop(words.pop()),
+        3 => words[1] = random.pick(&["2049", "65536", "4294967295"]),
+        4 if kind == Kind::Change => words[2] = random.pick(&["256", "65535"]),
+        4 | 5 => words[2 + random.place(message.numbers.len())] = "65536",
+        _ => words[1 + random.place(message.numbers.len() + 1)] = random.pick(&BAD_NUMBERS),
+    }
+    words.join(" ").into_bytes()
+}
+
+/// The bytes of a message with each thing wrong in turn.
+fn damaged_messages(sheet: &mut Sheet, turn: usize) {
+    let message = messages::of_kind(&mut sheet.random, kind_in_turn(turn));
+    for bytes in messages::damaged(&message) {
+        sheet.say(messages::reading(&bytes));
+    }
+    sheet.say("state");
+}
+
+/// (d) Images, good and damaged, and saves into buffers of all sizes; messages likewise.
 fn stored(sheet: &mut Sheet, turn: usize) {
     let first = images::random_schedule(&mut sheet.random, 12);
     sheet.load(&image(&first));
@@ -380,11 +451,23 @@ fn stored(sheet: &mut Sheet, turn: usize) {
         sheet.do_one(lines::any);
     }
     lists_in_turn(sheet, turn);
+    buffers_and_statuses(sheet, turn);
     if turn % 4 == 1 {
         let line = sheet.random.pick(&["save 2048", "save 2047", "save 1290", "save 1289"]);
         sheet.say(line);
     }
     sheet.say("save");
+}
+
+/// Messages into buffers of all sizes, and events: six scripts have every status.
+fn buffers_and_statuses(sheet: &mut Sheet, turn: usize) {
+    for line in messages::into_buffers(&mut sheet.random, kind_in_turn(turn)) {
+        sheet.say(line);
+    }
+    let statuses = (0..=255).skip(turn % 6).step_by(6);
+    let events: Vec<Message> =
+        statuses.flat_map(|status| messages::of_status(&mut sheet.random, status)).collect();
+    there_and_back(sheet, &events);
 }
 
 /// What a load did, or did not do.
@@ -471,6 +554,7 @@ enum End {
 fn filling_line(random: &mut Random, size: usize) -> Vec<u8> {
     let (start, fill): (&[u8], u8) = random.pick(&[
         (b"load ".as_slice(), b'0'),
+        (b"message ".as_slice(), b'0'),
         (b"owner ".as_slice(), b'0'),
         (b"owner ".as_slice(), b'9'),
         (b"owner".as_slice(), b' '),
@@ -545,8 +629,9 @@ mod tests {
         let mut sheet = Sheet::new(Random::new(1, 1));
         for _ in 0..100 {
             sheet.do_one(lines::join);
-            let line = bad_list(&mut sheet);
-            assert_eq!(sheet.session.line(&line), "bad\n", "{}", line.escape_ascii());
+            for line in [bad_load(&mut sheet), bad_list(&mut sheet), bad_message(&mut sheet)] {
+                assert_eq!(sheet.session.line(&line), "bad\n", "{}", line.escape_ascii());
+            }
         }
     }
 

@@ -1,6 +1,7 @@
 //! Single good lines, chosen with a look at the schedule as it stands.
 
 use crate::lists;
+use crate::messages;
 use crate::random::Random;
 use crate::ranges;
 use peer::image::image;
@@ -351,7 +352,7 @@ pub fn show(random: &mut Random, schedule: &Schedule) -> String {
 
 /// Any good line but `fresh` and `load`.
 pub fn any(random: &mut Random, schedule: &Schedule) -> String {
-    match random.between(0, 21) {
+    match random.between(0, 22) {
         0 | 1 => join(random, schedule),
         2 | 3 => crowd(random, schedule, 3, 9, 15),
         4 => edge_admission(random, schedule),
@@ -360,6 +361,7 @@ pub fn any(random: &mut Random, schedule: &Schedule) -> String {
         12..=16 => question(random, schedule),
         17 => lists::any(random, schedule),
         18 => ranged(random, schedule),
+        19 => messages::any(random),
         _ => show(random, schedule),
     }
 }

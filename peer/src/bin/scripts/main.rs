@@ -8,6 +8,7 @@ mod images;
 mod kinds;
 mod lines;
 mod lists;
+mod messages;
 mod random;
 mod ranges;
 mod sheet;
