@@ -18,16 +18,17 @@ pub fn empty() -> [u8; TREE_BYTES]
     [0u8; TREE_BYTES]
 }
 
-// p with its k bits in mirrored order: ones, twos, fours and eights of 16 bits change places, and the k bits come down.
-fn mirror(k: u32, p: u32) -> u32
+/// p with its k bits in mirrored order: of 16 bits the halves are exchanged, then the quarters, then twos, then ones, and
+/// what the width does not need is shifted away.
+pub fn mirror(k: u32, p: u32) -> u32
     requires { ⌜ k ≤ depth ⌝ }
     ensures { λ r. ⌜ Mirrored k p r ⌝ }
 {
-    let ones = ((p & 0x5555) << 1) | ((p >> 1) & 0x5555);
-    let twos = ((ones & 0x3333) << 2) | ((ones >> 2) & 0x3333);
-    let fours = ((twos & 0x0f0f) << 4) | ((twos >> 4) & 0x0f0f);
-    let eights = ((fours & 0x00ff) << 8) | ((fours >> 8) & 0x00ff);
-    eights >> (16 - k)
+    let eights = ((p & 0x00ff) << 8) | ((p >> 8) & 0x00ff);
+    let fours = ((eights & 0x0f0f) << 4) | ((eights >> 4) & 0x0f0f);
+    let twos = ((fours & 0x3333) << 2) | ((fours >> 2) & 0x3333);
+    let ones = ((twos & 0x5555) << 1) | ((twos >> 1) & 0x5555);
+    ones >> (16 - k)
 }
 
 // The node that covers the class of r for the factor 2^k.

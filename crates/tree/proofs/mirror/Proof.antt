@@ -1,4 +1,4 @@
--- `tree::mirror` meets its contract: the four swaps mirror 16 bits.
+-- `tree::mirror` meets its contract: the four exchanges mirror 16 bits.
 use borrow.Author.Needs.{needs}
 use Rattle.tree.proofs.SwapLaws.{mirror-swaps}
 use Rattle.tree.proofs.mirror.Statement.{statement}
