@@ -3,42 +3,27 @@ use Prim.Native.Nat.{ℕ, _+_, _^_, _<_}
 use mathlib.Core.Path.{_≡_}
 use mathlib.Core.Bool.{Bool, true, false}
 use mathlib.Core.List.{List}
-use lib.ListN.{length, getD}
+use lib.ListN.{getD}
 use Rattle.rules.specs.declared.Place.{Place}
 use Rattle.rules.specs.declared.Plan.{Plan}
-use Rattle.rules.specs.Time.{listBlocks}
 use Rattle.rules.specs.Classes.{classTaken}
 use Rattle.rules.specs.Mirror.{mirrored}
-use Rattle.rules.specs.TreeBytes.{bitAt}
+use Rattle.rules.specs.TreeBytes.{treeOf}
 use Rattle.place.specs.Steps.{ofPlace, ofPlan, placeStep, planStep}
 use Rattle.tree.specs.Promises.{ByTree}
-
--- Room for each class of the deepest row, and for each of its anchors.
-pub record Long (taken : List Bool) (anchors : List ℕ) : Type 0 where
-  pub classes : length taken ≡ listBlocks
-  pub places : length anchors ≡ listBlocks
 
 -- The anchors of depth k in node order.
 abbrev pub Anchors : ℕ → List ℕ → Type 0
 Anchors k anchors = (p : ℕ) → p < 2 ^ k → getD anchors p 0 ≡ mirrored k p
-
--- Whether each class of depth k is taken, in counting order.
-abbrev pub Row : ℕ → (ℕ → Bool) → List Bool → Type 0
-Row k taken row = (A : ℕ) → A < 2 ^ k → getD row A false ≡ classTaken taken k A
-
-pub record Reads (k : ℕ) (tree : List ℕ) (taken : List Bool) (anchors : List ℕ) : Type 0 where
-  pub long : Long taken anchors
-  pub order : Anchors k anchors
-  pub bits : (A : ℕ) → A < 2 ^ k → getD taken A false ≡ bitAt tree (2 ^ k + mirrored k A)
 
 -- From each class of depth k on, so many are free, up to the last of the depth; none where it is taken.
 pub record Stretches (k : ℕ) (taken : ℕ → Bool) (room : List ℕ) : Type 0 where
   pub shut : (A : ℕ) → A < 2 ^ k → getD room A 0 ≡ 0 → classTaken taken k A ≡ true
   pub clear : (A i : ℕ) → A < 2 ^ k → i < getD room A 0 → (A + i < 2 ^ k) × (classTaken taken k (A + i) ≡ false)
 
--- By the row of what is taken.
-abbrev pub MeasuresRoom : ℕ → List Bool → List ℕ → Type 0
-MeasuresRoom k row room = (taken : ℕ → Bool) → Row k taken row → Stretches k taken room
+-- The stretches, by the tree of what is taken.
+abbrev pub Measures : ℕ → List ℕ → List ℕ → Type 0
+Measures k tree room = (taken : ℕ → Bool) → tree ≡ treeOf taken → Stretches k taken room
 
 -- The stretches of what some test says is taken.
 abbrev pub IsRoom : ℕ → List ℕ → Type 0

@@ -6,7 +6,7 @@ ghost use Rattle.rules.specs.Time.{listBlocks};
 ghost use Rattle.rules.specs.Classes.{depth};
 ghost use Rattle.place.specs.Steps.{ofInterval, ofSmallest, ofRange, ofShare, intervalStep, smallestStep, rangeStep, shareStep};
 ghost use Rattle.tree.specs.Promises.{IsTree};
-ghost use Rattle.place.specs.Promises.{Anchors, Reads, MeasuresRoom, IsRoom, Searches, FindsFirst, Plans, Long};
+ghost use Rattle.place.specs.Promises.{Anchors, Measures, IsRoom, Searches, FindsFirst, Plans};
 use rules::BLOCK_SLOTS;
 use rules::Interval;
 use rules::LEAST_INTERVAL;
@@ -79,38 +79,38 @@ fn share_of(floor: u32, ceiling: u32, f: u32) -> Share
     Share::Fits
 }
 
-// The classes of a depth in counting order, taken or not, and its anchors in node order. An anchor is that of half its
-// place, moved down a bit, with the place's last bit on top.
-fn read_depth(
-    tree: &[u8; TREE_BYTES],
-    k: u32,
-    taken: &mut [bool; LIST_BLOCKS],
-    anchors: &mut [u16; LIST_BLOCKS],
-)
-    requires { ⌜ (k ≤ depth) × Long (now taken) (now anchors) ⌝ }
-    ensures { λ _. ⌜ Reads k (now (tree .entry)) (now (taken .exit)) (now (anchors .exit)) ⌝ }
+// The anchors of a depth in node order. Those of places 2p and 2p + 1 are that of p, moved down a bit, without the highest
+// bit and with it.
+fn list_anchors(k: u32, anchors: &mut [u16; LIST_BLOCKS])
+    requires { ⌜ (k ≤ depth) × (length (now anchors) ≡ listBlocks) ⌝ }
+    ensures { λ _. ⌜ Anchors k (now (anchors .exit)) ⌝ }
 {
-    let f = factor(k);
+    let highest = factor(k) >> 1;
     anchors[0] = 0;
-    taken[0] = tree::is_set(tree, f as usize);
-    for p in 1..f {
-        let half = anchors[(p >> 1) as usize] as u32 >> 1;
-        let a = half + ((p & 1) << (k - 1));
-        anchors[p as usize] = a as u16;
-        taken[a as usize] = tree::is_set(tree, (f + p) as usize);
+    for p in 0..highest {
+        let half = anchors[p as usize] >> 1;
+        anchors[(2 * p) as usize] = half;
+        anchors[(2 * p + 1) as usize] = half + highest as u16;
     }
 }
 
-// How many classes are free from each one on, up to the last of the depth; none where it is taken.
-fn measure(taken: &[bool; LIST_BLOCKS], k: u32, room: &mut [u16; LIST_BLOCKS])
-    requires { ⌜ (k ≤ depth) × (length (now room) ≡ listBlocks) ⌝ }
-    ensures { λ _. ⌜ MeasuresRoom k (now (taken .entry)) (now (room .exit)) ⌝ }
+// How many classes are free from each one on, up to the last of the depth; none where it is taken. Mirrored twice a number
+// comes back, so that the place of class c is what the anchors have at c.
+fn measure(
+    tree: &[u8; TREE_BYTES],
+    anchors: &[u16; LIST_BLOCKS],
+    k: u32,
+    room: &mut [u16; LIST_BLOCKS],
+)
+    requires { ⌜ (k ≤ depth) × Anchors k (now anchors) × (length (now room) ≡ listBlocks) ⌝ }
+    ensures { λ _. ⌜ Measures k (now (tree .entry)) (now (room .exit)) ⌝ }
 {
-    let mut c = factor(k) as usize;
+    let f = factor(k) as usize;
+    let mut c = f;
     let mut free: u16 = 0;
     while 0 < c {
         c -= 1;
-        if taken[c] {
+        if tree::is_set(tree, f + anchors[c] as usize) {
             free = 0;
         } else {
             free += 1;
@@ -126,7 +126,7 @@ fn wide(classes: u16) -> u32
     classes as u32
 }
 
-// The first anchor in node order whose whole run is free; a run is passed by stretches of free classes.
+// The first anchor in node order whose whole run is free; a run is passed by its stretches of free classes.
 fn search(room: &[u16; LIST_BLOCKS], anchors: &[u16; LIST_BLOCKS], k: u32, floor: u32) -> Place
     requires { ⌜ (k ≤ depth) × (floor ≤ 2 ^ k) × Anchors k (now anchors) × IsRoom k (now room) ⌝ }
     ensures { λ r. ⌜ Searches k floor (now (room .entry)) r ⌝ }
@@ -147,17 +147,50 @@ fn search(room: &[u16; LIST_BLOCKS], anchors: &[u16; LIST_BLOCKS], k: u32, floor
     Place::Nowhere
 }
 
-// The first open anchor, or none.
+// The first open anchor, by the free stretches of the depth.
+fn first_by_stretches(tree: &[u8; TREE_BYTES], k: u32, floor: u32) -> Place
+    requires { ⌜ (k ≤ depth) × (floor ≤ 2 ^ k) × IsTree (now tree) ⌝ }
+    ensures { λ r. ⌜ FindsFirst k floor (now (tree .entry)) r ⌝ }
+{
+    let mut anchors = [0u16; LIST_BLOCKS];
+    let mut room = [0u16; LIST_BLOCKS];
+    list_anchors(k, &mut anchors);
+    measure(tree, &anchors, k, &mut room);
+    search(&room, &anchors, k, floor)
+}
+
+// The first anchor in node order whose whole run is free, block by block. The node of its first block is its own place, so
+// that a taken one is passed with no mirror.
+fn first_by_blocks(tree: &[u8; TREE_BYTES], k: u32, floor: u32) -> Place
+    requires { ⌜ (k ≤ depth) × (1 ≤ floor) × (floor ≤ 2 ^ k) × IsTree (now tree) ⌝ }
+    ensures { λ r. ⌜ FindsFirst k floor (now (tree .entry)) r ⌝ }
+{
+    let f = factor(k);
+    'nodes: for p in 0..f {
+        if tree::is_set(tree, (f + p) as usize) {
+            continue 'nodes;
+        }
+        let a = tree::mirror(k, p);
+        for j in 1..floor {
+            if !tree::is_free(tree, k, class_at(k, a, j)) {
+                continue 'nodes;
+            }
+        }
+        return Place::At(a as u16);
+    }
+    Place::Nowhere
+}
+
+// The first open anchor, or none. A run of one or two blocks needs no measuring; of a longer one the trials that fail late
+// would take more than that (docs/BENCH.md has the counts).
 fn first_open(tree: &[u8; TREE_BYTES], k: u32, floor: u32) -> Place
     requires { ⌜ (k ≤ depth) × (floor ≤ 2 ^ k) × IsTree (now tree) ⌝ }
     ensures { λ r. ⌜ FindsFirst k floor (now (tree .entry)) r ⌝ }
 {
-    let mut taken = [false; LIST_BLOCKS];
-    let mut anchors = [0u16; LIST_BLOCKS];
-    let mut room = [0u16; LIST_BLOCKS];
-    read_depth(tree, k, &mut taken, &mut anchors);
-    measure(&taken, k, &mut room);
-    search(&room, &anchors, k, floor)
+    match floor {
+        1..=2 => first_by_blocks(tree, k, floor),
+        _ => first_by_stretches(tree, k, floor),
+    }
 }
 
 /// Where an admission goes, or the number of the first check from 2 on that refuses.
