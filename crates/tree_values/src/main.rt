@@ -1,6 +1,8 @@
-//! Runs the rule sheet's values of the tree that are not marked P, and prints what it finds.
+//! Runs the rule sheet's values of the tree that are not marked P, and the mirror beside a walk, and prints what it finds.
 ghost use Prim.Native.Nat.{_<_, _≤_, _^_};
+ghost use Rattle.rules.specs.Time.{listBlocks};
 ghost use Rattle.rules.specs.Classes.{depth};
+use rules::DEPTH;
 use rules::LEAST_INTERVAL;
 use rules::Schedule;
 use rules::TREE_BYTES;
@@ -34,6 +36,73 @@ fn admitted() {
     say_bits(dropped.schedule);
 }
 
+// p with its k bits in mirrored order by a walk bit by bit, which stands in this program alone.
+fn walked(k: u32, p: u32) -> u32 {
+    let mut mirrored: u32 = 0;
+    let mut left = p;
+    for _ in 0..k {
+        mirrored = (mirrored << 1) | (left & 1);
+        left = left >> 1;
+    }
+    mirrored
+}
+
+// Whether p is mirrored as the walk does it, or, mirrored twice, comes back.
+fn agrees(k: u32, p: u32, twice: bool) -> bool
+    requires { ⌜ k ≤ depth ⌝ }
+{
+    let once = tree::mirror(k, p);
+    if twice {
+        return tree::mirror(k, once) == p;
+    }
+    once == walked(k, p)
+}
+
+// How many numbers of k bits do so.
+fn agreeing(k: u32, twice: bool) -> u64
+    requires { ⌜ k ≤ depth ⌝ }
+    ensures { λ r. ⌜ r ≤ listBlocks ⌝ }
+{
+    let mut count: u64 = 0;
+    for p in 0..1u32 << k {
+        if agrees(k, p, twice) {
+            count += 1;
+        }
+    }
+    count
+}
+
+// How many of every width of the tree are mirrored as the walk does it.
+fn all_as_walked() -> u64 {
+    let mut count: u64 = 0;
+    for k in 0..=DEPTH {
+        count += agreeing(k, false);
+    }
+    count
+}
+
+fn say_agreeing() {
+    show::word(b"mirrored as bit by bit, k from 0 to 9:");
+    show::number(all_as_walked());
+    show::word(b" of 1023");
+    show::end();
+    show::word(b"back when mirrored twice, k 9:");
+    show::number(agreeing(9, true));
+    show::word(b" of 512");
+    show::end();
+}
+
+// Of p only the k lowest bits count.
+fn say_mirrored(p: u32) {
+    show::word(b"mirrored at k 0, 3 and 9,");
+    show::number(p as u64);
+    show::word(b":");
+    show::number(tree::mirror(0, p) as u64);
+    show::number(tree::mirror(3, p) as u64);
+    show::number(tree::mirror(9, p) as u64);
+    show::end();
+}
+
 fn main() {
     let eighth = single(3, 0);
     show::word(b"F 8, L 1, bits set:");
@@ -46,4 +115,8 @@ fn main() {
     show::bytes(&whole);
     show::end();
     admitted();
+    say_agreeing();
+    say_mirrored(4294967295);
+    say_mirrored(65538);
+    say_mirrored(1006);
 }
