@@ -26,10 +26,10 @@ struct placed {
 // ---- the tree
 
 static uint32_t mirror(uint32_t k, uint32_t p) {
-    p = (p & 0x5555) << 1 | (p >> 1 & 0x5555);
-    p = (p & 0x3333) << 2 | (p >> 2 & 0x3333);
-    p = (p & 0x0f0f) << 4 | (p >> 4 & 0x0f0f);
     p = (p & 0x00ff) << 8 | (p >> 8 & 0x00ff);
+    p = (p & 0x0f0f) << 4 | (p >> 4 & 0x0f0f);
+    p = (p & 0x3333) << 2 | (p >> 2 & 0x3333);
+    p = (p & 0x5555) << 1 | (p >> 1 & 0x5555);
     return p >> (16 - k);
 }
 
@@ -85,18 +85,28 @@ static int k_of(uint32_t slots) {
     return k;
 }
 
-static int place(const uint8_t *tree, uint32_t k, uint32_t floor) {
-    bool taken[512];
+static int first_by_blocks(const uint8_t *tree, uint32_t k, uint32_t floor) {
+    uint32_t f = 1u << k;
+    for (uint32_t p = 0; p < f; p++) {
+        if (is_set(tree, f + p)) continue;
+        uint32_t a = mirror(k, p), j = 1;
+        while (j < floor && !is_set(tree, node(k, class_at(k, a, j)))) j++;
+        if (j >= floor) return a;
+    }
+    return -1;
+}
+
+static int first_by_stretches(const uint8_t *tree, uint32_t k, uint32_t floor) {
     uint16_t anchors[512], open[512];
     uint32_t f = 1u << k;
     anchors[0] = 0;
-    taken[0] = is_set(tree, f);
-    for (uint32_t p = 1; p < f; p++) {
-        anchors[p] = anchors[p >> 1] >> 1 | (p & 1) << (k - 1);
-        taken[anchors[p]] = is_set(tree, f + p);
+    for (uint32_t p = 0; p < f / 2; p++) {
+        uint16_t half = anchors[p] >> 1;
+        anchors[2 * p] = half;
+        anchors[2 * p + 1] = half + f / 2;
     }
     for (uint32_t c = f, free = 0; c-- > 0;) {
-        free = taken[c] ? 0 : free + 1;
+        free = is_set(tree, f + anchors[c]) ? 0 : free + 1;
         open[c] = free;
     }
     for (uint32_t p = 0; p < f; p++) {
@@ -105,6 +115,10 @@ static int place(const uint8_t *tree, uint32_t k, uint32_t floor) {
         if (j >= floor) return anchors[p];
     }
     return -1;
+}
+
+static int place(const uint8_t *tree, uint32_t k, uint32_t floor) {
+    return floor <= 2 ? first_by_blocks(tree, k, floor) : first_by_stretches(tree, k, floor);
 }
 
 __attribute__((noinline)) static int admit(struct schedule *s, uint32_t handle, uint32_t smallest, uint32_t largest, uint32_t floor, uint32_t ceiling, struct placed *out) {
