@@ -42,14 +42,18 @@ module _ (f : ℕ → Bool) (k : ℕ) where
       (λ s. rw s e)
       (λ s. c i (omega arith))
 
+-- ---- what a tree shows of the classes of depth k, in counting order
+abbrev pub shown : ℕ → List ℕ → ℕ → Bool
+shown k tree A = bitAt tree (2 ^ k + mirrored k A)
+
+shown-taken : (f : ℕ → Bool) (k A : ℕ) (tree : List ℕ) → k ≤ depth → A < 2 ^ k → tree ≡ treeOf f → shown k tree A ≡ classTaken f k A
+shown-taken f k A tree hk l e = ap (λ (t : List ℕ). shown k t A) e ∙ tree-class f k A hk l
+
 -- ---- block by block
 -- The node of the anchor that is tried is its own place.
 module _ (f : ℕ → Bool) (k p : ℕ) (bytes : List ℕ) (hk : k ≤ depth) (hp : p < 2 ^ k) (t : bytes ≡ treeOf f) where
   own-place : bitAt bytes (2 ^ k + p) ≡ classTaken f k (mirrored k p)
-  own-place =
-      ap (λ (b : List ℕ). bitAt b (2 ^ k + p)) t
-      ∙ ap (λ (x : ℕ). bitAt (treeOf f) (2 ^ k + x)) (sym (mirror-mirror k p hp))
-      ∙ tree-class f k (mirrored k p) hk (mirror-lt k p)
+  own-place = ap (λ (x : ℕ). bitAt bytes (2 ^ k + x)) (sym (mirror-mirror k p hp)) ∙ shown-taken f k (mirrored k p) bytes hk (mirror-lt k p) t
 
   at-first : (mirrored k p + 0) % 2 ^ k ≡ mirrored k p
   at-first = ap (λ (x : ℕ). x % 2 ^ k) (omega arith) ∙ mod-eq-of-lt (mirror-lt k p)
@@ -209,13 +213,9 @@ module _ (k c n : ℕ) (row : ℕ → Bool) (room : List ℕ) (hk : k ≤ depth)
       (λ s. ap row (omega arith) ∙ e)
       (λ s. ap row (omega arith) ∙ r .ahead (i - 1) (omega arith)))
 
--- What a tree shows of the classes of depth k, in counting order.
-abbrev pub shown : ℕ → List ℕ → ℕ → Bool
-shown k tree A = bitAt tree (2 ^ k + mirrored k A)
-
 pub measured-all : (k n : ℕ) (tree room : List ℕ) → k ≤ depth → MeasuredFrom k 0 n (shown k tree) room → Measures k tree room
 measured-all k n tree room hk r f e =
-    let shows : (A : ℕ) → A < 2 ^ k → shown k tree A ≡ classTaken f k A = λ A l. ap (λ (t : List ℕ). shown k t A) e ∙ tree-class f k A hk l in
+    let shows : (A : ℕ) → A < 2 ^ k → shown k tree A ≡ classTaken f k A = λ A l. shown-taken f k A tree hk l e in
     record {
       shut = λ A l z. sym (shows A l) ∙ r .shut A (omega arith) l z;
       clear = λ A i l h.
