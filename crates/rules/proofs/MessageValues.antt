@@ -63,6 +63,13 @@ pub reading-in-order : (readMessage (event 0) ≡ refused 17)
 unfolding readMessage
 reading-in-order = (refl, refl, refl, refl, refl)
 
+-- A factor of 512 is forbidden, written and read; 256 is not.
+pub factor-512-is-17 : (writeMessage (Request 0 (subrates 512 512 0 0 600)) (old 15) ≡ record { answer = refused 17; buffer = old 15 })
+    × (readMessage (messageBytes (Request 0 (subrates 512 512 0 0 600))) ≡ refused 17)
+    × (writeMessage (Request 0 (subrates 256 256 0 0 600)) (old 15) .answer ≡ wrote 15)
+unfolding writeMessage readMessage messageBytes
+factor-512-is-17 = (refl, refl, refl)
+
 -- 17 goes before 8, and nothing changes; a buffer of just the size takes the message, and what is past it stays.
 pub writing-in-order : (writeMessage (Default (subrates 1 500 1 0 10)) (old 2) ≡ record { answer = refused 17; buffer = old 2 })
     × (writeMessage (Default (subrates 1 500 0 0 10)) (old 2) ≡ record { answer = refused 8; buffer = old 2 })

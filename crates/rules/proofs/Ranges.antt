@@ -23,18 +23,21 @@ given =
     ∷ range 13 24 ∼ says (ok 4 0 1)
     ∷ range 12 30 ∼ says (ok 4 0 1)
     ∷ range 6 48 ∼ says (ok 8 0 1)
+    ∷ range 1536 1536 ∼ says (ok 256 0 1)
     ∷ range 1536 3071 ∼ says (ok 256 0 1)
-    ∷ range 3072 3072 ∼ says (ok 512 0 1)
-    ∷ range 6 3200 ∼ says (ok 512 0 1)
+    ∷ range 1536 3200 ∼ says (ok 256 0 1)
+    ∷ range 6 3200 ∼ says (ok 256 0 1)
     ∷ []
 
--- "That rule may find none".
+-- "That rule may find none", and "a range whose smallest is above 1,536 gets 15".
 none : List Row
 unfolding range
 none =
     range 7 11 ∼ says (refused 15)
     ∷ range 13 23 ∼ says (refused 15)
     ∷ range 1537 3071 ∼ says (refused 15)
+    ∷ range 1537 3200 ∼ says (refused 15)
+    ∷ range 3072 3072 ∼ says (refused 15)
     ∷ range 3073 3200 ∼ says (refused 15)
     ∷ range 3200 3200 ∼ says (refused 15)
     ∷ []

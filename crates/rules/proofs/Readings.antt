@@ -2,18 +2,22 @@
 use Prim.Native.Nat.{ℕ}
 use mathlib.Core.Path.{_≡_, refl}
 use mathlib.Core.Bool.{true}
-use mathlib.Core.List.{List, [], _∷_}
-use lib.ListN.{replicate}
+use mathlib.Core.List.{List, [], _∷_, _++_}
+use lib.ListN.{length, replicate}
 use Rattle.rules.specs.declared.Connection.{Connection}
 use Rattle.rules.specs.declared.Schedule.{Schedule}
 use Rattle.rules.specs.declared.Report.{Report}
 use Rattle.rules.specs.Sound.{sound}
 use Rattle.rules.specs.Good.{fresh, withConnections, withConnection}
-use Rattle.rules.specs.Answers.{refusingList, refused, tight, reported}
-use Rattle.rules.specs.Handles.{connection}
+use Rattle.rules.specs.Answers.{refusing, refusingList, refused, tight, reported}
+use Rattle.rules.specs.Handles.{connection, eachLive}
 use Rattle.rules.specs.Admit.{admit}
 use Rattle.rules.specs.Report.{report}
 use Rattle.rules.specs.Reports.{reportAll}
+use Rattle.rules.specs.Records.{Piece, joined}
+use Rattle.rules.specs.Form.{treeKind, treeSize}
+use Rattle.rules.specs.Image.{countPiece, connectionPiece, connectionPieces}
+use Rattle.rules.specs.Load.{load}
 
 -- Two connections with one block in eight, side by side; the first may grow, and cannot.
 pub neighbour : ℕ → Connection
@@ -88,3 +92,35 @@ pub lists-in-order : (reportAll alone three (old ∷ old ∷ []) ≡ refusingLis
     × (reportAll alone [] [] .answer ≡ reported 0)
 unfolding alone reportAll
 lists-in-order = (refl, refl, refl, refl)
+
+-- ---- a load of records with a k of 9
+-- A connection of length 1.
+abbrev pub single : ℕ → ℕ → ℕ → Connection
+single k A e = record { live = true; k = k; anchor = A; length = 1; floor = 1; ceiling = 1; estimate = e }
+
+-- These records before an empty tree; and those of these connections, handles from 0 on.
+unfoldable pub before : List Piece → List ℕ
+unfolding joined countPiece
+before rs = joined (countPiece (length rs) ∷ (rs ++ (record { kind = treeKind; payload = replicate treeSize 0 } ∷ [])))
+
+unfoldable pub treeless : List Connection → List ℕ
+unfolding before connectionPiece eachLive
+treeless cs = before (connectionPieces 0 cs)
+
+-- 9 and 10 go before 18: a byte is left over; the anchor is not below 512; k is 10; another record is unsound, after it and before it; the handles fall.
+pub before-18 : (s : Schedule) → (load s (treeless (single 9 0 5000 ∷ []) ++ (0 ∷ [])) ≡ refusing s 9)
+    × (load s (treeless (single 9 512 5000 ∷ [])) ≡ refusing s 10)
+    × (load s (treeless (single 10 0 5000 ∷ [])) ≡ refusing s 10)
+    × (load s (treeless (single 9 0 5000 ∷ single 3 5 7501 ∷ [])) ≡ refusing s 10)
+    × (load s (treeless (single 3 5 7501 ∷ single 9 0 5000 ∷ [])) ≡ refusing s 10)
+    × (load s (before (connectionPiece 1 (single 9 0 5000) ∷ connectionPiece 0 (single 9 1 5000) ∷ [])) ≡ refusing s 10)
+unfolding treeless before connectionPiece load
+before-18 s = (refl, refl, refl, refl, refl, refl)
+
+-- 11 and 12 go after it: two of k 9 on one anchor; one with the tree of no connection. And it asks every record: neither the last alone nor the first.
+pub after-18 : (s : Schedule) → (load s (treeless (single 9 5 5000 ∷ single 9 5 5000 ∷ [])) ≡ refusing s 18)
+    × (load s (treeless (single 9 5 5000 ∷ [])) ≡ refusing s 18)
+    × (load s (treeless (single 9 5 5000 ∷ single 3 0 5000 ∷ [])) ≡ refusing s 18)
+    × (load s (treeless (single 3 0 5000 ∷ single 9 5 5000 ∷ [])) ≡ refusing s 18)
+unfolding treeless load
+after-18 s = (refl, refl, refl, refl)

@@ -70,7 +70,7 @@ estimates : Schedule → ℕ → Entry
 unfolding report
 estimates s sample = is (connection (report s 0 sample .schedule) 0 .estimate)
 
--- "Interval 5: refusal 4. 6 and 11: F 1. 12: F 2. 3,071: F 256. 3,072 and 3,200: F 512. 3,201: refusal 4."
+-- "Interval 5: refusal 4. 6 and 11: F 1. 12: F 2. 3,071: F 256." "One interval of 3,072 to 3,200 gives F 256, which amends 01's case". "3,201: refusal 4."
 intervals : List Row
 unfolding admits fresh
 intervals =
@@ -79,8 +79,8 @@ intervals =
     ∷ admits fresh 0 11 1 ∼ says (ok 1 0 1)
     ∷ admits fresh 0 12 1 ∼ says (ok 2 0 1)
     ∷ admits fresh 0 3071 1 ∼ says (ok 256 0 1)
-    ∷ admits fresh 0 3072 1 ∼ says (ok 512 0 1)
-    ∷ admits fresh 0 3200 1 ∼ says (ok 512 0 1)
+    ∷ admits fresh 0 3072 1 ∼ says (ok 256 0 1)
+    ∷ admits fresh 0 3200 1 ∼ says (ok 256 0 1)
     ∷ admits fresh 0 3201 1 ∼ says (refused 4)
     ∷ []
 

@@ -22,7 +22,7 @@ use Rattle.rules.specs.Handles.{aboveHandles, isLive}
 abbrev pub intervalOutside : ℕ → ℕ → Bool
 intervalOutside smallest largest = not (isRange smallest largest)
 
--- Of one interval: "k is the largest with 6 × 2^k not above the interval."
+-- Of one interval: "k is the largest with 6 × 2^k not above the interval", and "now at most 8".
 unfoldable pub kOf : ℕ → ℕ
 unfolding largest
 kOf interval = largest largestK (λ k. leb (blockSlots * 2 ^ k) interval)

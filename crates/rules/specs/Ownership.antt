@@ -15,9 +15,9 @@ lastHandle = 63
 abbrev pub handles : ℕ
 handles = suc lastHandle
 
--- "a factor F = 2^k with k from 0 to 9":
+-- "a factor F = 2^k", and "k in an admission and in a sound schedule is now at most 8":
 abbrev pub largestK : ℕ
-largestK = 9
+largestK = 8
 
 abbrev pub factor : Connection → ℕ
 factor c = 2 ^ (c .k)

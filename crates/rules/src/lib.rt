@@ -26,8 +26,11 @@ pub const HANDLES: usize = LAST_HANDLE as usize + 1;
 /// The most reports of one list.
 pub const MOST_REPORTS: usize = 64;
 
-/// The largest k of a factor 2^k.
-pub const LARGEST_K: u8 = 9;
+/// The largest k of a connection's factor 2^k.
+pub const LARGEST_K: u8 = 8;
+
+/// The largest k that a record of an image may say and be otherwise sound.
+pub const LARGEST_RECORD_K: u8 = 9;
 
 /// The largest handle by which host and controller name a connection.
 pub const LARGEST_HCI_HANDLE: u16 = 3839;
@@ -171,9 +174,10 @@ pub enum Refusal {
     NoInterval,
     MessageWrong,
     ValuesForbidden,
+    FactorIllegal,
 }
 
-/// What a largest interval gives: the largest k with 6 × 2^k not above it, or nothing.
+/// What a largest interval gives: the largest k of a connection with 6 × 2^k not above it, or nothing.
 pub enum Interval {
     Gives(u8),
     Outside,
@@ -207,6 +211,13 @@ pub enum Place {
 pub enum Plan {
     At(u8, u16),
     Refused(Refusal),
+}
+
+/// Whether the records of an image's connections are sound, are so but for a k that no connection may have, or are not.
+pub enum Soundness {
+    Sound,
+    Illegal,
+    Unsound,
 }
 
 /// How many connections an image counts; or its records are wrong.
