@@ -7,7 +7,7 @@ use Prim.Native.Nat.{ℕ, zero, suc, _^_, _<_, _≤_}
 use native.Mathlib.Decide.{ℕ-discrete, decLe}
 use native.Mathlib.Omega.{arith}
 use lib.Dec.{leb, ltb}
-use lib.ListN.{length, set, replicate, length-set}
+use lib.ListN.{length, set, replicate, length-set, List·getD-eq-default}
 use lib.Seq.{getD-set-same, getD-set-other, set-getD}
 use borrow.Author.Tests.{le-leb, lt-leb, lt-ltb, le-ltb}
 use Rattle.rules.specs.declared.Connection.{Connection}
@@ -17,7 +17,7 @@ use Rattle.rules.specs.Ownership.{handles, nobody, at, belongs, owns, taken}
 use Rattle.blocks.specs.Taking.{nothing, setRun}
 use Rattle.rules.specs.TreeBytes.{treeOf}
 use Rattle.rules.specs.Good.{Good, FreeSlotsZero, treeFor, fresh, withConnections, withConnection}
-use Rattle.rules.specs.Handles.{connection}
+use Rattle.rules.specs.Handles.{connection, isLive}
 use Rattle.basics.proofs.BoolLaws.{bool-iff, is-false}
 use Rattle.blocks.proofs.TreeLaws.{tree-ext}
 use Rattle.rules.specs.Sound.{Numbers, sound}
@@ -175,6 +175,13 @@ good-tree s good = good .hasTree
 
 pub good-sound : (s : Schedule) → Good s → Sound (s .connections)
 good-sound s good = sound-exactly (s .connections) .0 (good-connections s good)
+
+-- No handle past the schedule's end is live.
+pub live-below : (s : Schedule) → length (s .connections) ≡ handles → (h : ℕ) → isLive s h ≡ true → h < handles
+live-below s places h live =
+    by-cases (decLe handles h)
+    (λ l. absurd (false≢true (sym (ap (λ (c : Connection). c .live) (List·getD-eq-default (s .connections) nobody (omega (arith, places)))) ∙ live)))
+    (λ l. omega arith)
 
 module _ (s : Schedule) (good : Good s) (h : ℕ) (below : h ≤ 63) where
   pub inside : h < length (s .connections)

@@ -7,6 +7,7 @@ use Prim.Native.Nat.{ℕ, zero, suc, _*_, _%_, _^_, _<_, _≤_}
 use native.Mathlib.Decide.{ℕ-discrete, decLe}
 use native.Mathlib.Omega.{arith}
 use lib.ListN.{length}
+use lib.Dec.{leb}
 use borrow.Author.Tests.{le-leb, leb-true, lt-ltb, ltb-true}
 use Rattle.rules.specs.declared.Connection.{Connection}
 use Rattle.rules.specs.declared.Schedule.{Schedule}
@@ -14,7 +15,7 @@ use Rattle.rules.specs.Below.{any}
 use Rattle.rules.specs.Time.{blockMicros, listBlocks}
 use Rattle.rules.specs.Ownership.{handles, largestK, factor, at, belongs, owns, taken, ownedTwice}
 use Rattle.rules.specs.Classes.{depth, free}
-use Rattle.rules.specs.Sound.{soundNumbers, Numbers, allSound, apart, soundConnections, sound}
+use Rattle.rules.specs.Sound.{numbersWithin, NumbersWithin, soundNumbers, Numbers, allSound, apart, soundConnections, sound}
 use Rattle.rules.specs.Good.{Good, withConnections}
 use Rattle.basics.proofs.BoolLaws.{bool-iff, both, is-false, not-true-is-false}
 use Rattle.basics.proofs.BelowLaws.{any-none, none-at}
@@ -22,9 +23,9 @@ use Rattle.blocks.proofs.EndlessTime.{belongs-mod}
 use Rattle.blocks.proofs.ClassLaws.{within-depth, Periodic, free-ever}
 
 -- ---- the numbers of one connection
-pub numbers-sound : (c : Connection) → (soundNumbers c ≡ true) ↔ Numbers c
-unfolding soundNumbers
-numbers-sound c = (
+pub numbers-within : (most : ℕ) (c : Connection) → (numbersWithin most c ≡ true) ↔ NumbersWithin most c
+unfolding numbersWithin
+numbers-within most c = (
   λ e.
       let p₁ = both _ _ e in
       let p₂ = both _ _ (p₁ .0) in
@@ -52,6 +53,26 @@ numbers-sound c = (
         le-leb _ _ (n .metered),
       ),
 )
+
+abbrev pub numbers-sound : (c : Connection) → (soundNumbers c ≡ true) ↔ Numbers c
+numbers-sound = numbers-within largestK
+
+-- Of another bound only k is asked anew.
+deep-within : (m n : ℕ) (c : Connection) → numbersWithin m c ≡ true → c .k ≤ n → numbersWithin n c ≡ true
+deep-within m n c e l =
+    let w = numbers-within m c .0 e in
+    numbers-within n c .1 (record { deep = l; anchored = w .anchored; positive = w .positive; floored = w .floored; ceiled = w .ceiled; whole = w .whole; metered = w .metered })
+
+-- A smaller one asks the same, and that k is within it.
+pub numbers-less : (m n : ℕ) → m ≤ n → (c : Connection) → numbersWithin m c ≡ numbersWithin n c && leb (c .k) m
+numbers-less m n l c =
+    bool-iff (numbersWithin m c) (numbersWithin n c && leb (c .k) m)
+    (λ e.
+    let d = numbers-within m c .0 e .deep in
+    ap₂ _&&_ (deep-within m n c e (omega (arith, d))) (le-leb _ _ d))
+    (λ e.
+    let p = both (numbersWithin n c) (leb (c .k) m) e in
+    deep-within n m c (p .0) (leb-true _ _ (p .1)))
 
 -- ---- every live connection
 live-or : (live v : Bool) → not live || v ≡ true → live ≡ true → v ≡ true

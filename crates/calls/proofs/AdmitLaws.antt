@@ -13,6 +13,7 @@ use lib.ListN.{take}
 use borrow.Author.Tests.{le-ltb, ltb-true, ltb-false, ne-eqb, eqb-false, not-false}
 use Rattle.rules.specs.declared.Connection.{Connection}
 use Rattle.rules.specs.declared.Schedule.{Schedule}
+use Rattle.rules.specs.declared.Command.the-variants.{Admit}
 use Rattle.rules.specs.Below.{isNone}
 use Rattle.rules.specs.Time.{minusMod}
 use Rattle.rules.specs.Core.{isRange}
@@ -24,6 +25,7 @@ use Rattle.rules.specs.Answers.{Outcome, refusing, ok}
 use Rattle.rules.specs.Refusals.{number}
 use Rattle.rules.specs.Handles.{isLive, connection}
 use Rattle.rules.specs.Admit.{kIn, kFor, shareWrong, isOpen, firstOpen, newConnection, admitChecks, anchorFor, admitDone, admit}
+use Rattle.rules.specs.Obey.{singleFrom, obey}
 use Rattle.basics.proofs.BoolLaws.{neither, is-false}
 use Rattle.basics.proofs.BelowLaws.{every-at, every-of, least-some, least-none, least-is-none, is-some}
 use Rattle.blocks.proofs.EndlessTime.{minusMod-back}
@@ -32,7 +34,7 @@ use Rattle.rules.specs.Sound.{Numbers, soundConnections}
 use Rattle.blocks.proofs.SoundLaws.{class-free-ever, good-connections}
 use Rattle.blocks.proofs.ScheduleLaws.{others, others-at, set-good, set-zero, set-other, set-same, inside}
 use Rattle.calls.proofs.RefusalLaws.{Passed, passed-take, decided-cases}
-use Rattle.calls.proofs.RangeLaws.{k-given, k-deep}
+use Rattle.calls.proofs.RangeLaws.{k-given, k-deep, k-unique, range-most}
 use Rattle.blocks.proofs.ClassLaws.{within-depth}
 
 -- ---- the share
@@ -174,6 +176,22 @@ admit-cases s h lo hi f c P no′ yes′ =
       reached = r;
       placeable = record { deep = k-deep lo hi (w .0) (r .given); share = r .share; place = is-some _ (rw q at (p .1 .1 .1 .1 .1 .0)) };
     })))
+
+-- A range that has 1,536 in it gives F 256,
+pub answers-256 : (s : Schedule) (h lo hi f c F A L : ℕ) → lo ≤ 1536 → 1536 ≤ hi → admit s h lo hi f c .answer ≡ ok F A L → F ≡ 256
+unfolding admitDone
+answers-256 s h lo hi f c F A L l m =
+    admit-cases s h lo hi f c (λ o. o .answer ≡ ok F A L → F ≡ 256)
+    (λ n e. let z : _≡_ {A = ℕ} 0 1 = cc in absurd (omega arith))
+    (λ a e.
+    let q : largestK ≡ a .k = k-unique lo hi largestK (a .k) (range-most lo hi (a .reached .range) l m) (a .reached .given) in
+    let p : 2 ^ a .k ≡ F = cc in
+    sym (ap (λ (k : ℕ). 2 ^ k) q ∙ p))
+
+-- and so "one interval of 3,072 to 3,200 gives F 256".
+pub single-256 : (s : Schedule) (h i f c F A L : ℕ) → 3072 ≤ i → obey s (Admit h i f c) .answer ≡ ok F A L → F ≡ 256
+unfolding obey
+single-256 s h i f c F A L l = answers-256 s h singleFrom i f c F A L (omega arith) (omega arith)
 
 module _ (s : Schedule) (good : Good s) (h lo hi f c : ℕ) where
   -- An admission leaves a good schedule.

@@ -7,7 +7,7 @@ use native.Mathlib.Omega.{arith}
 use lib.Dec.{eqb, lit<}
 use lib.ListN.{getD}
 use Rattle.rules.specs.declared.Refusal.{Refusal}
-use Rattle.rules.specs.declared.Refusal.the-variants.{HandleAbove63, HandleLive, HandleNotLive, IntervalOutside, ShareWrong, NoOpenAnchor, SampleAboveRun, BufferShort, RecordsWrong, NumbersUnsound, BlockOwnedTwice, TreeDiffers, ReportsMany, ListShort, NoInterval, MessageWrong, ValuesForbidden}
+use Rattle.rules.specs.declared.Refusal.the-variants.{HandleAbove63, HandleLive, HandleNotLive, IntervalOutside, ShareWrong, NoOpenAnchor, SampleAboveRun, BufferShort, RecordsWrong, NumbersUnsound, BlockOwnedTwice, TreeDiffers, ReportsMany, ListShort, NoInterval, MessageWrong, ValuesForbidden, FactorIllegal}
 use Rattle.rules.specs.declared.Admission.{Admission}
 use Rattle.rules.specs.declared.Admission.the-variants.{Placed, Refused as AdmissionRefused}
 use Rattle.rules.specs.declared.Dropping.{Dropping}
@@ -53,7 +53,7 @@ refusalOf n =
     (or SampleAboveRun (or BufferShort (or RecordsWrong
     (or NumbersUnsound (or BlockOwnedTwice (or TreeDiffers
     (or ReportsMany (or ListShort (or NoInterval
-    (or MessageWrong ValuesForbidden)))))))))))))))
+    (or MessageWrong (or ValuesForbidden FactorIllegal))))))))))))))))
 
 refusal-back : (r : Refusal) → refusalOf (number r) ≡ r
 unfolding refusalOf
@@ -74,6 +74,7 @@ refusal-back ListShort = refl
 refusal-back NoInterval = refl
 refusal-back MessageWrong = refl
 refusal-back ValuesForbidden = refl
+refusal-back FactorIllegal = refl
 
 pub number-injective : (a b : Refusal) → number a ≡ number b → a ≡ b
 number-injective a b e = undone number refusalOf refusal-back e
@@ -97,6 +98,7 @@ number-small ListShort = lit< tt
 number-small NoInterval = lit< tt
 number-small MessageWrong = lit< tt
 number-small ValuesForbidden = lit< tt
+number-small FactorIllegal = lit< tt
 
 -- ---- the answers: a number for each of the sheet's words, and the values beside it
 word : Answer → ℕ

@@ -1,6 +1,7 @@
 -- The laws of the calls, in the order to read them.
 pub mod RefusalLaws
 pub mod AnswerLaws
+pub mod FactorLaws
 pub mod RangeLaws
 pub mod AdmitLaws
 pub mod DropLaws

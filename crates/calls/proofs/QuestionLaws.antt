@@ -1,15 +1,13 @@
 -- What the two questions mean: whose block it is, and how far the next anchor is.
 use mathlib.Core.Path.{_≡_, refl, sym, ap, _∙_}
 use mathlib.Core.Bool.{true, false, not, false≢true}
-use mathlib.Core.Logic.{by-cases, _↔_, inl, inr}
+use mathlib.Core.Logic.{_↔_, inl, inr}
 use mathlib.Core.Option.{Option, none, some}
 use Prim.Native.Nat.{ℕ, _+_, _*_, _%_, _^_, _<_, _≤_}
 use native.Mathlib.Nat.{add-zero, mod-lt, mod-le, add-mod-mod}
-use native.Mathlib.Decide.{decLe}
 use native.Mathlib.Omega.{arith}
 use lib.Pow.{pow-pos}
 use lib.IntN.{pos}
-use lib.ListN.{length, List·getD-eq-default}
 use borrow.Author.Tests.{lt-ltb, le-ltb}
 use Rattle.rules.specs.declared.Connection.{Connection}
 use Rattle.rules.specs.declared.Schedule.{Schedule}
@@ -18,7 +16,7 @@ use Rattle.rules.specs.Below.{least}
 use Rattle.rules.specs.Time.{listBlocks, minusMod}
 use Rattle.rules.specs.Core.{Subrated}
 use Rattle.rules.specs.Classes.{depth, free}
-use Rattle.rules.specs.Ownership.{handles, largestK, nobody, factor, subrating, owns, taken}
+use Rattle.rules.specs.Ownership.{handles, largestK, factor, subrating, owns, taken}
 use Rattle.rules.specs.Good.{Good}
 use Rattle.rules.specs.Refusals.{number}
 use Rattle.rules.specs.Answers.{refused, owner, idle, slots}
@@ -27,9 +25,9 @@ use Rattle.rules.specs.Owner.{ownerOr, ownerOf}
 use Rattle.rules.specs.Anchor.{slotsToAnchor, anchorChecks, anchor}
 use Rattle.basics.proofs.BoolLaws.{is-false}
 use Rattle.basics.proofs.BelowLaws.{least-some, least-none, least-is, least-is-none}
-use Rattle.blocks.proofs.SoundLaws.{class-free-ever, good-connections}
+use Rattle.blocks.proofs.SoundLaws.{owns-parts, class-free-ever, good-connections}
 use Rattle.blocks.proofs.EndlessTime.{minusMod-back, minusMod-only, anchors-subrated, factor-mod}
-use Rattle.blocks.proofs.ScheduleLaws.{good-sound, nobody-owns}
+use Rattle.blocks.proofs.ScheduleLaws.{good-sound, live-below}
 use Rattle.calls.proofs.RefusalLaws.{FirstRefusal, decided-first, decided-passed}
 
 -- ---- owner
@@ -45,12 +43,7 @@ module _ (s : Schedule) (b : ℕ) where
 
 -- A handle past the schedule's end owns nothing.
 beyond : (s : Schedule) → Good s → (h b : ℕ) → owns (connection s h) b ≡ true → h < 64
-beyond s good h b e =
-    by-cases (decLe 64 h)
-    (λ l.
-    let g : length (s .connections) ≤ h = omega (arith, good .places) in
-    absurd (false≢true (sym (ap (λ (c : Connection). owns c b) (List·getD-eq-default (s .connections) nobody g) ∙ nobody-owns b) ∙ e)))
-    (λ l. omega arith)
+beyond s good h b e = live-below s (good .places) h (owns-parts (connection s h) b e .0)
 
 module _ (s : Schedule) (good : Good s) (b : ℕ) where
   -- The answer is the handle of the one live connection that the block belongs to.

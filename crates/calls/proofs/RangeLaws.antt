@@ -113,6 +113,11 @@ k-is k i h l m =
     let g : 2 ^ suc k ≤ 2 ^ j = pow-mono p in
     lt-leb (6 * 2 ^ j) i (omega arith))
 
+-- From the longest interval on it is the largest k: one of 3,072 to 3,200 gives it, as 1,536 does.
+pub k-most : (i : ℕ) → 6 * 2 ^ largestK ≤ i → kOf i ≡ largestK
+unfolding kOf
+k-most i l = largest-unique largestK (λ j. leb (6 * 2 ^ j) i) largestK (omega arith) (le-leb (6 * 2 ^ largestK) i l) (λ j p q. absurd (omega arith))
+
 -- ---- the k of a range
 -- k is at most the largest k, and 6 × 2^k is in the range.
 pub record InRange (lo hi k : ℕ) : Type 0 where
@@ -221,6 +226,18 @@ k-missed lo hi e l =
     let n = r .notBelow in
     omega arith)
 
+-- "a range whose smallest is above 1,536 gets 15", as none is in it; one that has 1,536 in it gives the largest k.
+pub range-above : (lo hi : ℕ) → 1536 < lo → NoneIn lo hi
+range-above lo hi l k r =
+    let m : 2 ^ k ≤ 2 ^ largestK = pow-mono (r .within) in
+    let n = r .notBelow in
+    omega arith
+
+pub range-most : (lo hi : ℕ) → isRange lo hi ≡ true → lo ≤ 1536 → 1536 ≤ hi → kIn lo hi ≡ some largestK
+range-most lo hi e l m =
+    let q = k-most hi m in
+    rw q at (k-held lo hi (range-bounds lo hi e .1) (rw q l))
+
 -- The range from the least interval is the single interval.
 pub from-least : (i : ℕ) → isInterval i ≡ true → kIn leastInterval i ≡ some (kOf i)
 from-least i e = k-held leastInterval i e (omega (arith, pow-pos (kOf i)))
@@ -255,6 +272,9 @@ module _ (s : Schedule) (h lo hi f c : ℕ) where
         λ e. let w = r .0 e in (ltb-false 63 h (w .0 .0), w .0 .1 .0, not-false (isRange lo hi) (w .0 .1 .1 .0), n .0 (is-none (kIn lo hi) (w .1))),
         λ w. r .1 ((le-ltb 63 h (w .0), (w .1, (ap not (w .2), tt))), ap isNone (n .1 (w .3))),
       )
+
+  pub above-15 : h ≤ 63 → isLive s h ≡ false → isRange lo hi ≡ true → 1536 < lo → admit s h lo hi f c .answer ≡ refused (number NoInterval)
+  above-15 l u e m = no-interval-exactly .1 (l, u, e, range-above lo hi m)
 
 -- The command of one interval never gives 15.
 pub single-never-15 : (s : Schedule) (h i f c : ℕ) → obey s (Admit h i f c) .answer ≡ refused (number NoInterval) → ⊥
@@ -293,7 +313,8 @@ module _ (s : Schedule) (h i f c : ℕ) where
       decided-after _ _ (refusing s) _ _ _
       (decided-skip _ _ (refusing s) _ (ap isNone g) ∙ ap (λ (k : ℕ). decided (afterK k) (refusing s) (admitDone s h k f c)) (k-given singleFrom i (kOf i) g))
 
-  -- So the command is as the rule sheet has it: "Checks 1, 2, 4, 5, 6", 4 is of the interval, and k is the largest with 6 × 2^k not above it.
+  -- So the command is as the rule sheet has it: "Checks 1, 2, 4, 5, 6", 4 is of the interval, and k is the largest, now at most 8, with 6 × 2^k not
+  -- above it.
   abbrev sheetChecks : List Check
   sheetChecks = check HandleAbove63 (aboveHandles h) ∷ check HandleLive (isLive s h) ∷ check IntervalOutside (not (isInterval i)) ∷ afterK (kOf i)
 

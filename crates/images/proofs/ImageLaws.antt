@@ -10,7 +10,7 @@ use lib.Seq.{set-at}
 use borrow.Author.Tests.{not-false}
 use Rattle.rules.specs.declared.Connection.{Connection}
 use Rattle.rules.specs.declared.Schedule.{Schedule}
-use Rattle.rules.specs.Ownership.{handles, nobody, at, owns, taken, ownedTwice}
+use Rattle.rules.specs.Ownership.{handles, largestK, nobody, at, owns, taken, ownedTwice}
 use Rattle.rules.specs.Sound.{soundNumbers, allSound, apart, soundConnections, sound, Numbers}
 use Rattle.rules.specs.Good.{Good, FreeSlotsZero, treeFor, fresh, withConnections}
 use Rattle.rules.specs.Refusals.{number}
@@ -22,7 +22,7 @@ use Rattle.rules.specs.Form.{headOf, countKind, countSize, connectionKind, conn
 use Rattle.rules.specs.Image.{countPiece, connectionPiece, connectionPieces, treePiece, pieces, image, IsImage}
 use Rattle.rules.specs.Framing.{countIn, Framed}
 use Rattle.rules.specs.Fields.{connectionsIn, handleIn, connectionIn, treeIn}
-use Rattle.rules.specs.Load.{soundRecords, numbersUnsound, atHandles, connectionsOf, loadChecks, loadDone, load}
+use Rattle.rules.specs.Load.{largestRecordK, recordsWithin, numbersUnsound, factorIllegal, atHandles, connectionsOf, loadChecks, loadDone, load}
 use Rattle.basics.proofs.BoolLaws.{both}
 use Rattle.basics.proofs.BelowLaws.{any-ext}
 use Rattle.blocks.proofs.TreeLaws.{tree-sized, tree-ext}
@@ -31,6 +31,7 @@ use Rattle.calls.proofs.RefusalLaws.{Passed, decided-cases, decided-passed}
 use Rattle.calls.proofs.EachLaws.{liveCount, count-most, each-count}
 use Rattle.basics.proofs.BytesLaws.{AllBytes, bytes-append, little-bytes, little-number, number-little, same-exactly}
 use Rattle.images.proofs.RisingLaws.{soundFrom, sound-from, rising-exactly}
+use Rattle.images.proofs.LegalLaws.{legal-of, legal-told}
 use Rattle.images.proofs.PieceLaws.{Fitting, Each, record-length, joined-append, pieces-joined, pieces-bytes, numbers-narrow, connection-read, connection-written}
 use Rattle.images.proofs.FormLaws.{HeadIs, IsConnection, Parts, parts-form, connections-inside, tree-inside}
 use Rattle.images.proofs.FrameLaws.{framed-exactly, framed-of}
@@ -259,21 +260,21 @@ restored-cleared h (c ∷ cs) l n = go (c .live) refl (restored-cleared (suc h) 
     go false q later = later ∙ slots-shift h (cleared cs)
 
 -- The handles of a schedule's records rise.
-pieces-sound : (h g : ℕ) (cs : List Connection) → h ≤ g → g + length cs ≡ handles → AllNumbers cs → soundFrom h (connectionPieces g cs) ≡ true
+pieces-sound : (h g : ℕ) (cs : List Connection) → h ≤ g → g + length cs ≡ handles → AllNumbers cs → soundFrom largestK h (connectionPieces g cs) ≡ true
 unfolding soundFrom eachLive
 pieces-sound h g [] m l n = refl
 pieces-sound h g (c ∷ cs) m l n = go (c .live) refl (λ j k. pieces-sound j (suc g) cs k (omega arith) (λ i. n (suc i)))
   where
-    go : (v : Bool) → c .live ≡ v → ((j : ℕ) → j ≤ suc g → soundFrom j (connectionPieces (suc g) cs) ≡ true)
-        → soundFrom h (cond v (connectionPiece g c ∷ connectionPieces (suc g) cs) (connectionPieces (suc g) cs)) ≡ true
+    go : (v : Bool) → c .live ≡ v → ((j : ℕ) → j ≤ suc g → soundFrom largestK j (connectionPieces (suc g) cs) ≡ true)
+        → soundFrom largestK h (cond v (connectionPiece g c ∷ connectionPieces (suc g) cs) (connectionPieces (suc g) cs)) ≡ true
     go true q later =
         let r = live-read g c (omega arith) (n 0 q) q in
-        rising-exactly h (connectionPiece g c) (connectionPieces (suc g) cs) .1
+        rising-exactly largestK h (connectionPiece g c) (connectionPieces (suc g) cs) .1
         (record {
           below = rw (r .0) (omega arith);
           above = rw (r .0) m;
           numbers = ap soundNumbers (r .1) ∙ numbers-sound c .1 (n 0 q);
-          later = ap (λ (j : ℕ). soundFrom (suc j) (connectionPieces (suc g) cs)) (r .0) ∙ later (suc g) (omega arith);
+          later = ap (λ (j : ℕ). soundFrom largestK (suc j) (connectionPieces (suc g) cs)) (r .0) ∙ later (suc g) (omega arith);
         })
     go false q later = later h (omega arith)
 
@@ -326,10 +327,10 @@ laid-one r rs c b n w =
     }
 
 -- The connections of rising records have these records.
-laid : (rs : List Piece) (h : ℕ) → h ≤ handles → soundFrom h rs ≡ true → Each IsConnection rs → Each (λ r. AllBytes (r .payload)) rs → Laid h rs
+laid : (rs : List Piece) (h : ℕ) → h ≤ handles → soundFrom largestK h rs ≡ true → Each IsConnection rs → Each (λ r. AllBytes (r .payload)) rs → Laid h rs
 laid [] h l e c b = laid-from h handles [] l laid-none
 laid (r ∷ rs) h l e c b =
-    let p = rising-exactly h r rs .0 e in
+    let p = rising-exactly largestK h r rs .0 e in
     laid-from h (handleIn r) (r ∷ rs) (p .above) (laid-one r rs (c .0) (b .0) (p .numbers) (laid rs (suc (handleIn r)) (p .below) (p .later) (c .1) (b .1)))
 
 -- ---- what the checks of a load test
@@ -337,12 +338,12 @@ record Accepted (bytes : List ℕ) (rs : List Piece) : Type 0 where
   most : countIn rs ≤ handles
   records : joined rs ≡ bytes
   parts : Parts (countIn rs) rs
-  rising : soundRecords (connectionsIn rs) ≡ true
+  rising : recordsWithin largestK (connectionsIn rs) ≡ true
   separate : apart (connectionsOf rs) ≡ true
   tree : treeIn rs ≡ treeFor (connectionsOf rs)
 
 passed-exactly : (bytes : List ℕ) → Passed (loadChecks bytes) ↔ Accepted bytes (piecesOf bytes)
-unfolding loadChecks numbersUnsound
+unfolding loadChecks numbersUnsound factorIllegal
 passed-exactly bytes =
     let rs = piecesOf bytes in
     let n = countIn rs in
@@ -354,14 +355,15 @@ passed-exactly bytes =
             most = q .most;
             records = q .records;
             parts = q .parts;
-            rising = not-false (soundRecords (connectionsIn rs)) (p .1 .0);
-            separate = not-false (apart (connectionsOf rs)) (p .1 .1 .0);
-            tree = tree .0 (not-false (same (treeIn rs) (treeFor (connectionsOf rs))) (p .1 .1 .1 .0));
+            rising = legal-of (connectionsIn rs) (not-false (recordsWithin largestRecordK (connectionsIn rs)) (p .1 .0)) (p .1 .1 .0);
+            separate = not-false (apart (connectionsOf rs)) (p .1 .1 .1 .0);
+            tree = tree .0 (not-false (same (treeIn rs) (treeFor (connectionsOf rs))) (p .1 .1 .1 .1 .0));
           },
-      λ a. (
-        framed-of bytes n refl (record { most = a .most; records = a .records; parts = a .parts }) .right,
-        (ap not (a .rising), (ap not (a .separate), (ap not (tree .1 (a .tree)), tt))),
-      ),
+      λ a.
+          let w = legal-told (connectionsIn rs) (a .rising) in (
+            framed-of bytes n refl (record { most = a .most; records = a .records; parts = a .parts }) .right,
+            (ap not (w .0), (w .1, (ap not (a .separate), (ap not (tree .1 (a .tree)), tt)))),
+          ),
     )
 
 -- ---- the image of a schedule is accepted
@@ -399,7 +401,7 @@ module _ (s : Schedule) (long : length (s .connections) ≡ handles) (isSound : 
         most = omega (arith, count-read s long, count-most cs);
         records = refl;
         parts = subst (λ (n : ℕ). Parts n (pieces s)) (sym (count-read s long)) (pieces-parts s);
-        rising = ap soundRecords read-each ∙ sound-from (connectionPieces 0 cs) ∙ pieces-sound 0 0 cs (omega arith) (omega arith) numbered;
+        rising = ap (recordsWithin largestK) read-each ∙ sound-from largestK (connectionPieces 0 cs) ∙ pieces-sound 0 0 cs (omega arith) (omega arith) numbered;
         separate = ap apart read-connections ∙ cleared-apart cs ∙ both (allSound cs) (apart cs) isSound .1;
         tree = read-tree ∙ sym (ap treeFor read-connections ∙ cleared-tree cs);
       }
@@ -443,7 +445,7 @@ accepted-restores bytes rs b a =
     let cs = connectionsOf rs in
     let held = subst (Each (λ r. AllBytes (r .payload))) (p .whole) b in
     let inner : connectionsIn rs ≡ each = connections-inside n rs p in
-    let w = laid each 0 (omega arith) (sym (sound-from each) ∙ ap soundRecords (sym inner) ∙ a .rising) (p .connections) (each-left (λ r. AllBytes (r .payload)) each (last ∷ []) (held .1)) in
+    let w = laid each 0 (omega arith) (sym (sound-from largestK each) ∙ ap (recordsWithin largestK) (sym inner) ∙ a .rising) (p .connections) (each-left (λ r. AllBytes (r .payload)) each (last ∷ []) (held .1)) in
     let slots : cs ≡ w .slots = ap atHandles inner ∙ w .placed in
     let again : connectionPieces 0 cs ≡ each = ap (connectionPieces 0) slots ∙ w .again in
     let says : length each ≡ littleNumber (first .payload) = p .number ∙ ap countIn (p .whole) in

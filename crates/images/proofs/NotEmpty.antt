@@ -5,7 +5,7 @@ use mathlib.Core.Logic.{_≢_}
 use mathlib.Core.List.{List, [], _∷_, _++_}
 use Prim.Native.Nat.{ℕ}
 use native.Mathlib.Omega.{arith}
-use lib.ListN.{length, replicate, set}
+use lib.ListN.{replicate, set}
 use Rattle.rules.specs.declared.Connection.{Connection}
 use Rattle.rules.specs.declared.Schedule.{Schedule}
 use Rattle.rules.specs.Below.{tabulate}
@@ -15,25 +15,19 @@ use Rattle.rules.specs.Sound.{soundConnections, sound}
 use Rattle.rules.specs.Good.{Good, treeFor, fresh, withConnections, withConnection}
 use Rattle.rules.specs.Nodes.{nodeBit}
 use Rattle.rules.specs.Answers.{Outcome, refusing, loaded}
-use Rattle.rules.specs.Handles.{eachLive}
-use Rattle.rules.specs.Records.{joined}
-use Rattle.rules.specs.Form.{treeKind, treeSize}
-use Rattle.rules.specs.Image.{countPiece, connectionPiece, connectionPieces, image}
+use Rattle.rules.specs.Image.{image}
 use Rattle.rules.specs.Load.{load}
+use Rattle.rules.proofs.Readings.{single, treeless}
 use Rattle.blocks.proofs.TreeLaws.{tree-bit}
 use Rattle.blocks.proofs.SoundLaws.{connected-good}
 use Rattle.blocks.proofs.ScheduleLaws.{fresh-is-good}
 use Rattle.calls.proofs.EachLaws.{liveCount}
 use Rattle.images.proofs.ImageLaws.{load-image}
 
--- A connection of length 1.
-pub single : ℕ → ℕ → ℕ → Connection
-single k A e = record { live = true; k = k; anchor = A; length = 1; floor = 1; ceiling = 1; estimate = e }
-
 -- ---- good schedules
 -- 64 connections, each with one block in 64.
 pub houseful : List Connection
-unfolding tabulate single
+unfolding tabulate
 houseful = tabulate handles (λ h. single 6 h 5000)
 
 pub house : Schedule
@@ -43,13 +37,31 @@ pub house-is-good : Good house
 unfolding house houseful soundConnections
 house-is-good = connected-good fresh houseful refl refl
 
+-- One connection, of handle 0.
+pub only : Connection → Schedule
+only c = withConnection fresh 0 c
+
+only-good : (c : Connection) → soundConnections (set (replicate handles nobody) 0 c) ≡ true → Good (only c)
+unfolding only fresh
+only-good c e = connected-good fresh (set (replicate handles nobody) 0 c) refl e
+
 -- F 4, anchor 3, L 2: its run goes round the end of the cycle, to blocks 3 and 0.
 pub round : Connection
 round = record { live = true; k = 2; anchor = 3; length = 2; floor = 2; ceiling = 2; estimate = 12500 }
 
-pub round-is-good : Good (withConnection fresh 0 round)
-unfolding round fresh soundConnections
-round-is-good = connected-good fresh (set (replicate handles nobody) 0 round) refl refl
+pub round-is-good : Good (only round)
+unfolding round soundConnections
+round-is-good = only-good round refl
+
+-- The largest factor: a connection of F 256.
+pub slow-is-good : Good (only (single 8 0 5000))
+unfolding soundConnections
+slow-is-good = only-good (single 8 0 5000) refl
+
+-- The largest estimate: L × 7,500.
+pub full-estimate-is-good : Good (only (single 3 5 7500))
+unfolding soundConnections
+full-estimate-is-good = only-good (single 3 5 7500) refl
 
 -- ---- schedules that are not good
 -- Any good schedule with a node's bit flipped.
@@ -68,19 +80,17 @@ pub shared : Schedule
 shared = withConnection (withConnection fresh 0 (single 3 5 5000)) 1 (single 3 5 5000)
 
 pub shared-is-not-good : Good shared → ⊥
-unfolding shared single fresh sound withConnections
+unfolding shared fresh sound withConnections
 shared-is-not-good g = false≢true (g .isSound)
 
--- An estimate one above L × 7,500; at L × 7,500 it is sound.
-pub over : ℕ → Schedule
-over e = withConnection fresh 0 (single 3 5 e)
+-- A connection of F 512.
+pub slower-is-not-good : Good (only (single 9 0 5000)) → ⊥
+unfolding only fresh sound withConnections
+slower-is-not-good g = false≢true (g .isSound)
 
-pub full-estimate-is-good : Good (over 7500)
-unfolding over single fresh soundConnections
-full-estimate-is-good = connected-good fresh (set (replicate handles nobody) 0 (single 3 5 7500)) refl refl
-
-pub over-is-not-good : Good (over 7501) → ⊥
-unfolding over single fresh sound withConnections
+-- An estimate one above L × 7,500.
+pub over-is-not-good : Good (only (single 3 5 7501)) → ⊥
+unfolding only fresh sound withConnections
 over-is-not-good g = false≢true (g .isSound)
 
 -- ---- images, and bytes that load refuses
@@ -89,10 +99,10 @@ pub house-is-loaded : (s : Schedule) → load s (image house) .answer ≡ loaded
 unfolding house houseful withConnections liveCount
 house-is-loaded s = ap (λ (o : Outcome). o .answer) (load-image s house (house-is-good .places) (house-is-good .isSound))
 
--- The records of these connections, handles from 0 on, before an empty tree.
-pub treeless : List Connection → List ℕ
-unfolding joined countPiece connectionPiece eachLive
-treeless cs = joined (countPiece (length cs) ∷ (connectionPieces 0 cs ++ (record { kind = treeKind; payload = replicate treeSize 0 } ∷ [])))
+-- And that of one logger of F 256.
+pub slow-is-loaded : (s : Schedule) → load s (image (only (single 8 0 5000))) .answer ≡ loaded 1
+unfolding only fresh withConnections liveCount
+slow-is-loaded s = ap (λ (o : Outcome). o .answer) (load-image s (only (single 8 0 5000)) (slow-is-good .places) (slow-is-good .isSound))
 
 -- 9: a byte is left over.
 pub left-over-is-9 : (s : Schedule) → load s (treeless [] ++ (0 ∷ [])) ≡ refusing s 9
@@ -101,15 +111,20 @@ left-over-is-9 s = refl
 
 -- 10: an estimate one above L × 7,500.
 pub over-is-10 : (s : Schedule) → load s (treeless (single 3 5 7501 ∷ [])) ≡ refusing s 10
-unfolding treeless single load
+unfolding treeless load
 over-is-10 s = refl
+
+-- 18: one logger of F 512, with its tree.
+pub slower-is-18 : (s : Schedule) → load s (image (only (single 9 0 5000))) ≡ refusing s 18
+unfolding only fresh withConnections image load
+slower-is-18 s = refl
 
 -- 11: two connections on one anchor.
 pub shared-is-11 : (s : Schedule) → load s (treeless (single 3 5 5000 ∷ single 3 5 5000 ∷ [])) ≡ refusing s 11
-unfolding treeless single load
+unfolding treeless load
 shared-is-11 s = refl
 
 -- 12: the tree of no connection.
 pub treeless-is-12 : (s : Schedule) → load s (treeless (single 3 5 5000 ∷ [])) ≡ refusing s 12
-unfolding treeless single load
+unfolding treeless load
 treeless-is-12 s = refl

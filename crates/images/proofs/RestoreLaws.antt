@@ -13,7 +13,7 @@ use lib.Dec.{ltb}
 use borrow.Author.Tests.{lt-ltb, ltb-true}
 use Rattle.rules.specs.declared.Connection.{Connection}
 use Rattle.rules.specs.Time.{minusMod}
-use Rattle.rules.specs.Ownership.{handles, nobody, at, owns, taken}
+use Rattle.rules.specs.Ownership.{handles, largestK, nobody, at, owns, taken}
 use Rattle.rules.specs.Classes.{runFree}
 use Rattle.blocks.specs.Taking.{setRun}
 use Rattle.rules.specs.TreeBytes.{treeOf}
@@ -22,7 +22,7 @@ use Rattle.rules.specs.Good.{treeFor}
 use Rattle.rules.specs.Admit.{isOpen}
 use Rattle.rules.specs.Records.{Piece}
 use Rattle.rules.specs.Fields.{handleIn, connectionIn}
-use Rattle.rules.specs.Load.{allNumbersSound, rising, soundRecords, atHandles}
+use Rattle.rules.specs.Load.{allNumbersWithin, rising, recordsWithin, atHandles}
 use Rattle.basics.proofs.BoolLaws.{both, is-false}
 use Rattle.blocks.proofs.ClassLaws.{within-depth}
 use Rattle.blocks.proofs.EndlessTime.{minusMod-only}
@@ -40,11 +40,11 @@ restored-length [] = length-replicate handles nobody
 restored-length (r ∷ rs) = length-set (atHandles rs) (handleIn r) (connectionIn r) ∙ restored-length rs
 
 -- Every connection has sound numbers.
-pub restored-numbers : (rs : List Piece) → allNumbersSound rs ≡ true → (h : ℕ) → at (atHandles rs) h .live ≡ true → Numbers (at (atHandles rs) h)
-unfolding atHandles allNumbersSound
+pub restored-numbers : (rs : List Piece) → allNumbersWithin largestK rs ≡ true → (h : ℕ) → at (atHandles rs) h .live ≡ true → Numbers (at (atHandles rs) h)
+unfolding atHandles allNumbersWithin
 restored-numbers [] e h l = absurd (false≢true (sym (ap (λ (c : Connection). c .live) (at-free handles h)) ∙ l))
 restored-numbers (r ∷ rs) e h l =
-    let p = both (ltb (handleIn r) handles && soundNumbers (connectionIn r)) (allNumbersSound rs) e in
+    let p = both (ltb (handleIn r) handles && soundNumbers (connectionIn r)) (allNumbersWithin largestK rs) e in
     let s = both (ltb (handleIn r) handles) (soundNumbers (connectionIn r)) (p .0) in
     by-cases (ℕ-discrete h (handleIn r))
     (λ q.
@@ -55,35 +55,35 @@ restored-numbers (r ∷ rs) e h l =
     let other = at-other (atHandles rs) (handleIn r) (connectionIn r) h q in
     subst Numbers (sym other) (restored-numbers rs (p .1) h (ap (λ (c : Connection). c .live) (sym other) ∙ l)))
 
-all-numbers : (rs : List Piece) → soundRecords rs ≡ true → allNumbersSound rs ≡ true
-unfolding soundRecords
-all-numbers rs e = both (allNumbersSound rs) (rising (map handleIn rs)) e .0
+all-numbers : (rs : List Piece) → recordsWithin largestK rs ≡ true → allNumbersWithin largestK rs ≡ true
+unfolding recordsWithin
+all-numbers rs e = both (allNumbersWithin largestK rs) (rising (map handleIn rs)) e .0
 
 -- Sound is apart, where the records are sound.
-sound-apart : (rs : List Piece) → soundRecords rs ≡ true → soundConnections (atHandles rs) ≡ apart (atHandles rs)
+sound-apart : (rs : List Piece) → recordsWithin largestK rs ≡ true → soundConnections (atHandles rs) ≡ apart (atHandles rs)
 unfolding soundConnections
 sound-apart rs e = ap (λ (v : Bool). v && apart (atHandles rs)) (all-sound-of (atHandles rs) (restored-numbers rs (all-numbers rs e)))
 
 -- ---- one record more, after the others
 -- The handles rise: it is placed where nobody is, whether first or last.
 record Added (g : ℕ) (xs : List Piece) (r : Piece) : Type 0 where
-  pub earlier : soundFrom g xs ≡ true
+  pub earlier : soundFrom largestK g xs ≡ true
   pub above : g ≤ handleIn r
   pub below : handleIn r < handles
   pub numbers : soundNumbers (connectionIn r) ≡ true
   pub unused : at (atHandles xs) (handleIn r) ≡ nobody
   pub placed : atHandles (xs ++ (r ∷ [])) ≡ set (atHandles xs) (handleIn r) (connectionIn r)
 
-added : (g : ℕ) (xs : List Piece) (r : Piece) → soundFrom g (xs ++ (r ∷ [])) ≡ true → Added g xs r
+added : (g : ℕ) (xs : List Piece) (r : Piece) → soundFrom largestK g (xs ++ (r ∷ [])) ≡ true → Added g xs r
 unfolding atHandles soundFrom
 added g [] r e =
-    let p = rising-exactly g r [] .0 e in
+    let p = rising-exactly largestK g r [] .0 e in
     record { earlier = refl; above = p .above; below = p .below; numbers = p .numbers; unused = at-free handles (handleIn r); placed = refl }
 added g (x ∷ xs) r e =
-    let p = rising-exactly g x (xs ++ (r ∷ [])) .0 e in
+    let p = rising-exactly largestK g x (xs ++ (r ∷ [])) .0 e in
     let q = added (suc (handleIn x)) xs r (p .later) in
     record {
-      earlier = rising-exactly g x xs .1 (record { below = p .below; above = p .above; numbers = p .numbers; later = q .earlier });
+      earlier = rising-exactly largestK g x xs .1 (record { below = p .below; above = p .above; numbers = p .numbers; later = q .earlier });
       above = omega (arith, p .above, q .above);
       below = q .below;
       numbers = q .numbers;
@@ -93,13 +93,13 @@ added g (x ∷ xs) r e =
           ∙ set-comm (atHandles xs) (handleIn r) (handleIn x) (connectionIn r) (connectionIn x) (λ z. omega (arith, q .above));
     }
 
-module _ (xs : List Piece) (r : Piece) (e : soundRecords (xs ++ (r ∷ [])) ≡ true) where
+module _ (xs : List Piece) (r : Piece) (e : recordsWithin largestK (xs ++ (r ∷ [])) ≡ true) where
   one-more : Added 0 xs r
-  one-more = added 0 xs r (sym (sound-from (xs ++ (r ∷ []))) ∙ e)
+  one-more = added 0 xs r (sym (sound-from largestK (xs ++ (r ∷ []))) ∙ e)
 
   -- The records before it are sound too.
-  pub sound-earlier : soundRecords xs ≡ true
-  sound-earlier = sound-from xs ∙ one-more .earlier
+  pub sound-earlier : recordsWithin largestK xs ≡ true
+  sound-earlier = sound-from largestK xs ∙ one-more .earlier
 
   pub handle-here : handleIn r < handles
   handle-here = one-more .below
@@ -190,23 +190,23 @@ module _ (xs : List Piece) (r : Piece) (e : soundRecords (xs ++ (r ∷ [])) ≡ 
       ∙ ap treeFor (sym placed-here)
 
 -- ---- the first i of the records
-sound-first-from : (h : ℕ) (rs : List Piece) (i : ℕ) → soundFrom h rs ≡ true → soundFrom h (take i rs) ≡ true
+sound-first-from : (h : ℕ) (rs : List Piece) (i : ℕ) → soundFrom largestK h rs ≡ true → soundFrom largestK h (take i rs) ≡ true
 unfolding soundFrom
 sound-first-from h [] zero e = refl
 sound-first-from h [] (suc i) e = refl
 sound-first-from h (r ∷ rs) zero e = refl
 sound-first-from h (r ∷ rs) (suc i) e =
-    let p = rising-exactly h r rs .0 e in
-    rising-exactly h r (take i rs) .1 (record { below = p .below; above = p .above; numbers = p .numbers; later = sound-first-from (suc (handleIn r)) rs i (p .later) })
+    let p = rising-exactly largestK h r rs .0 e in
+    rising-exactly largestK h r (take i rs) .1 (record { below = p .below; above = p .above; numbers = p .numbers; later = sound-first-from (suc (handleIn r)) rs i (p .later) })
 
-module _ (rs : List Piece) (e : soundRecords rs ≡ true) where
+module _ (rs : List Piece) (e : recordsWithin largestK rs ≡ true) where
   -- They are sound too.
-  pub sound-first : (i : ℕ) → soundRecords (take i rs) ≡ true
-  sound-first i = sound-from (take i rs) ∙ sound-first-from 0 rs i (sym (sound-from rs) ∙ e)
+  pub sound-first : (i : ℕ) → recordsWithin largestK (take i rs) ≡ true
+  sound-first i = sound-from largestK (take i rs) ∙ sound-first-from 0 rs i (sym (sound-from largestK rs) ∙ e)
 
   -- And so they are with the one after them.
-  pub sound-next : (i : ℕ) → i < length rs → soundRecords (take i rs ++ (nth rs i ∷ [])) ≡ true
-  sound-next i l = ap soundRecords (sym (take-suc rs i _ l)) ∙ sound-first (suc i)
+  pub sound-next : (i : ℕ) → i < length rs → recordsWithin largestK (take i rs ++ (nth rs i ∷ [])) ≡ true
+  sound-next i l = ap (recordsWithin largestK) (sym (take-suc rs i _ l)) ∙ sound-first (suc i)
 
   -- Where they clash, more do.
   pub clash-first : (n i : ℕ) → i ≤ n → n ≤ length rs → apart (atHandles (take i rs)) ≡ false → apart (atHandles (take n rs)) ≡ false
@@ -220,7 +220,7 @@ module _ (rs : List Piece) (e : soundRecords rs ≡ true) where
 
 -- ---- no record
 pub apart-none : apart (atHandles []) ≡ true
-unfolding soundConnections atHandles allNumbersSound
+unfolding soundConnections atHandles allNumbersWithin
 apart-none =
     let s : Sound (replicate handles nobody) = record {
       numbers = restored-numbers [] refl;

@@ -4,3 +4,4 @@ pub mod MessageLaws
 pub mod ReadLaws
 pub mod WriteLaws
 pub mod MessageRules
+pub mod SeenLaws
