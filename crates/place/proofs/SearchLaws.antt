@@ -11,7 +11,7 @@ use lib.Pow.{pow-pos, pow-mono}
 use lib.ListN.{length, getD, set, length-set}
 use lib.Seq.{getD-set-same, getD-set-other}
 use Rattle.rules.specs.declared.Refusal.the-variants.{NoOpenAnchor}
-use Rattle.rules.specs.Time.{listBlocks}
+use Rattle.rules.specs.Ownership.{largestK}
 use Rattle.rules.specs.Classes.{classTaken, free, runFree, depth}
 use Rattle.rules.specs.Mirror.{mirrored}
 use Rattle.rules.specs.TreeBytes.{treeOf, bitAt}
@@ -23,7 +23,7 @@ use Rattle.basics.proofs.BoolLaws.{is-false}
 use Rattle.basics.proofs.BelowLaws.{every-at, every-of, least-is, least-is-none}
 use Rattle.blocks.proofs.MirrorLaws.{mirror-lt, mirror-mirror, mirror-by-half, mirror-zero}
 use Rattle.blocks.proofs.TreeLaws.{tree-class}
-use Rattle.place.specs.Promises.{Anchors, Stretches, Measures}
+use Rattle.place.specs.Promises.{rowClasses, Anchors, Stretches, Measures}
 
 -- The run at A is free up to its block n.
 abbrev pub Clear : (ℕ → Bool) → ℕ → ℕ → ℕ → Type 0
@@ -97,11 +97,11 @@ module _ (f : ℕ → Bool) (k n : ℕ) where
 -- ---- the anchors of a depth in node order
 -- The anchors of the first n nodes have been listed; the first of all always is.
 pub record ListedTo (k n : ℕ) (anchors : List ℕ) : Type 0 where
-  pub long : length anchors ≡ listBlocks
+  pub long : length anchors ≡ rowClasses
   pub first : getD anchors 0 0 ≡ 0
   pub order : (q : ℕ) → q < n → getD anchors q 0 ≡ mirrored k q
 
-pub listed-none : (k : ℕ) (anchors : List ℕ) → length anchors ≡ listBlocks → ListedTo k 0 (set anchors 0 0)
+pub listed-none : (k : ℕ) (anchors : List ℕ) → length anchors ≡ rowClasses → ListedTo k 0 (set anchors 0 0)
 listed-none k anchors l =
     record {
       long = length-set anchors 0 0 ∙ l;
@@ -110,7 +110,7 @@ listed-none k anchors l =
     }
 
 -- One node more.
-listed-next : (k n A : ℕ) (anchors : List ℕ) → n < listBlocks → A ≡ mirrored k n → ListedTo k n anchors → ListedTo k (n + 1) (set anchors n A)
+listed-next : (k n A : ℕ) (anchors : List ℕ) → n < rowClasses → A ≡ mirrored k n → ListedTo k n anchors → ListedTo k (n + 1) (set anchors n A)
 listed-next k n A anchors l e r =
     let same : getD (set anchors n A) n 0 ≡ A = getD-set-same anchors n A 0 (omega (arith, r .long)) in
     record {
@@ -132,7 +132,7 @@ highest (suc k) h =
     let e : suc k - 1 ≡ k = omega arith in
     rw (e, pow-suc 2 k) (omega arith, omega arith, omega arith)
 
-module _ (k p : ℕ) (anchors : List ℕ) (hk : k ≤ depth) (hp : p < 2 ^ k / 2) (r : ListedTo k (2 * p) anchors) where
+module _ (k p : ℕ) (anchors : List ℕ) (hk : k ≤ largestK) (hp : p < 2 ^ k / 2) (r : ListedTo k (2 * p) anchors) where
   -- Half of its place has been listed before.
   pub listed-at : getD anchors p 0 ≡ mirrored k p
   listed-at =
@@ -144,7 +144,7 @@ module _ (k p : ℕ) (anchors : List ℕ) (hk : k ≤ depth) (hp : p < 2 ^ k / 2
   pub listed-more : ListedTo k (2 * (p + 1)) (set (set anchors (2 * p) (getD anchors p 0 / 2)) (2 * p + 1) (getD anchors p 0 / 2 + 2 ^ k / 2))
   listed-more =
       let w = highest k (omega arith) in
-      let g : 2 ^ k ≤ 512 = pow-mono hk in
+      let g : 2 ^ k ≤ rowClasses = pow-mono hk in
       let a : getD anchors p 0 ≡ mirrored k p = listed-at in
       let l : 2 * p / 2 ≡ p = omega arith in
       let l′ : 2 * p % 2 ≡ 0 = omega arith in
@@ -166,13 +166,13 @@ listed-all k anchors r p l =
 -- ---- measuring a depth
 -- The stretches from class c on have been measured; n classes are free from c on.
 pub record MeasuredFrom (k c n : ℕ) (row : ℕ → Bool) (room : List ℕ) : Type 0 where
-  pub long : length room ≡ listBlocks
+  pub long : length room ≡ rowClasses
   pub within : c + n ≤ 2 ^ k
   pub ahead : (i : ℕ) → i < n → row (c + i) ≡ false
   pub shut : (A : ℕ) → c ≤ A → A < 2 ^ k → getD room A 0 ≡ 0 → row A ≡ true
   pub clear : (A i : ℕ) → c ≤ A → A < 2 ^ k → i < getD room A 0 → (A + i < 2 ^ k) × (row (A + i) ≡ false)
 
-pub measured-none : (k : ℕ) (row : ℕ → Bool) (room : List ℕ) → length room ≡ listBlocks → MeasuredFrom k (2 ^ k) 0 row room
+pub measured-none : (k : ℕ) (row : ℕ → Bool) (room : List ℕ) → length room ≡ rowClasses → MeasuredFrom k (2 ^ k) 0 row room
 measured-none k row room h =
     record {
       long = h;
@@ -182,11 +182,11 @@ measured-none k row room h =
       clear = λ A i l m h. absurd (omega arith);
     }
 
-module _ (k c n : ℕ) (row : ℕ → Bool) (room : List ℕ) (hk : k ≤ depth) (r : MeasuredFrom k (c + 1) n row room) where
+module _ (k c n : ℕ) (row : ℕ → Bool) (room : List ℕ) (hk : k ≤ largestK) (r : MeasuredFrom k (c + 1) n row room) where
   -- One class more, from which m are free.
   measured-more : (m : ℕ) → c + m ≤ 2 ^ k → (m ≡ 0 → row c ≡ true) → ((i : ℕ) → i < m → row (c + i) ≡ false) → MeasuredFrom k c m row (set room c m)
   measured-more m w z a =
-      let g : 2 ^ k ≤ 512 = pow-mono hk in
+      let g : 2 ^ k ≤ rowClasses = pow-mono hk in
       let same : getD (set room c m) c 0 ≡ m = getD-set-same room c m 0 (omega arith) in
       record {
         long = length-set room c m ∙ r .long;

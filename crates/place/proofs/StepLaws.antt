@@ -15,11 +15,16 @@ use Rattle.rules.specs.Admit.{intervalOutside, kOf, kIn, shareWrong, firstOpen}
 use Rattle.rules.specs.Steps.{Step, gives, places, passes, refuses}
 use Rattle.place.specs.Steps.{intervalStep, smallestStep, rangeStep, shareStep, placeAt, placeStep, planStep}
 use Rattle.basics.proofs.BoolLaws.{is-false, neither}
-use Rattle.calls.proofs.RangeLaws.{interval-bounds, interval-is, range-bounds, range-is, k-is, k-held, k-missed}
+use Rattle.calls.proofs.RangeLaws.{interval-bounds, interval-is, range-bounds, range-is, k-is, k-most, k-held, k-missed}
 
 pub interval-gives : (k i : ℕ) → k ≤ largestK → 6 * 2 ^ k ≤ i → i < 12 * 2 ^ k → (6 ≤ i) × (i ≤ 3200) → gives k ≡ intervalStep i
 unfolding intervalStep
 interval-gives k i h l m b = rw (k-is k i h l m, interval-is i (b .0) (b .1))
+
+-- From the longest interval on it is the largest k.
+pub interval-most : (i : ℕ) → 6 * 2 ^ largestK ≤ i → i ≤ 3200 → gives largestK ≡ intervalStep i
+unfolding intervalStep
+interval-most i l b = rw (k-most i l, interval-is i (omega arith) b)
 
 pub interval-below : (i : ℕ) → i < 6 → refuses (number IntervalOutside) ≡ intervalStep i
 unfolding intervalStep isInterval

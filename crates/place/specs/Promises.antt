@@ -6,11 +6,16 @@ use mathlib.Core.List.{List}
 use lib.ListN.{getD}
 use Rattle.rules.specs.declared.Place.{Place}
 use Rattle.rules.specs.declared.Plan.{Plan}
+use Rattle.rules.specs.Ownership.{largestK}
 use Rattle.rules.specs.Classes.{classTaken}
 use Rattle.rules.specs.Mirror.{mirrored}
 use Rattle.rules.specs.TreeBytes.{treeOf}
 use Rattle.place.specs.Steps.{ofPlace, ofPlan, placeStep, planStep}
 use Rattle.tree.specs.Promises.{ByTree}
+
+-- A row of the search has a place for each class of the largest factor.
+abbrev pub rowClasses : ℕ
+rowClasses = 2 ^ largestK
 
 -- The anchors of depth k in node order.
 abbrev pub Anchors : ℕ → List ℕ → Type 0

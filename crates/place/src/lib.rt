@@ -2,15 +2,14 @@
 ghost use mathlib.Core.Path.{_≡_};
 ghost use Prim.Native.Nat.{_<_, _≤_, _^_};
 ghost use lib.ListN.{length};
-ghost use Rattle.rules.specs.Time.{listBlocks};
-ghost use Rattle.rules.specs.Classes.{depth};
+ghost use Rattle.rules.specs.Ownership.{largestK};
 ghost use Rattle.place.specs.Steps.{ofInterval, ofSmallest, ofRange, ofShare, intervalStep, smallestStep, rangeStep, shareStep};
 ghost use Rattle.tree.specs.Promises.{IsTree};
-ghost use Rattle.place.specs.Promises.{Anchors, Measures, IsRoom, Searches, FindsFirst, Plans};
+ghost use Rattle.place.specs.Promises.{rowClasses, Anchors, Measures, IsRoom, Searches, FindsFirst, Plans};
 use rules::BLOCK_SLOTS;
 use rules::Interval;
+use rules::LARGEST_K;
 use rules::LEAST_INTERVAL;
-use rules::LIST_BLOCKS;
 use rules::Place;
 use rules::Plan;
 use rules::Range;
@@ -21,7 +20,10 @@ use rules::TREE_BYTES;
 use run::class_at;
 use run::factor;
 
-// The largest k with 6 × 2^k not above the largest interval.
+// A row of the search has a place for each class of the largest factor.
+const ROW_CLASSES: usize = 1 << LARGEST_K;
+
+// The largest k, up to that of a connection, with 6 × 2^k not above the largest interval.
 fn k_of(largest: u32) -> Interval
     ensures { λ r. ⌜ ofInterval r ≡ intervalStep largest ⌝ }
 {
@@ -34,8 +36,7 @@ fn k_of(largest: u32) -> Interval
         192..=383 => Interval::Gives(5),
         384..=767 => Interval::Gives(6),
         768..=1535 => Interval::Gives(7),
-        1536..=3071 => Interval::Gives(8),
-        3072..=3200 => Interval::Gives(9),
+        1536..=3200 => Interval::Gives(LARGEST_K),
         _ => Interval::Outside,
     }
 }
@@ -55,7 +56,7 @@ fn smallest_of(smallest: u32, largest: u32) -> Smallest
 
 // Where the longest interval up to the largest is below the smallest, none is in the range.
 fn range_of(smallest: u32, f: u32) -> Range
-    requires { ⌜ f ≤ listBlocks ⌝ }
+    requires { ⌜ f ≤ 2 ^ largestK ⌝ }
     ensures { λ r. ⌜ ofRange r ≡ rangeStep smallest f ⌝ }
 {
     if BLOCK_SLOTS * f < smallest {
@@ -81,8 +82,8 @@ fn share_of(floor: u32, ceiling: u32, f: u32) -> Share
 
 // The anchors of a depth in node order. Those of places 2p and 2p + 1 are that of p, moved down a bit, without the highest
 // bit and with it.
-fn list_anchors(k: u32, anchors: &mut [u16; LIST_BLOCKS])
-    requires { ⌜ (k ≤ depth) × (length (now anchors) ≡ listBlocks) ⌝ }
+fn list_anchors(k: u32, anchors: &mut [u16; ROW_CLASSES])
+    requires { ⌜ (k ≤ largestK) × (length (now anchors) ≡ rowClasses) ⌝ }
     ensures { λ _. ⌜ Anchors k (now (anchors .exit)) ⌝ }
 {
     let highest = factor(k) >> 1;
@@ -98,11 +99,11 @@ fn list_anchors(k: u32, anchors: &mut [u16; LIST_BLOCKS])
 // comes back, so that the place of class c is what the anchors have at c.
 fn measure(
     tree: &[u8; TREE_BYTES],
-    anchors: &[u16; LIST_BLOCKS],
+    anchors: &[u16; ROW_CLASSES],
     k: u32,
-    room: &mut [u16; LIST_BLOCKS],
+    room: &mut [u16; ROW_CLASSES],
 )
-    requires { ⌜ (k ≤ depth) × Anchors k (now anchors) × (length (now room) ≡ listBlocks) ⌝ }
+    requires { ⌜ (k ≤ largestK) × Anchors k (now anchors) × (length (now room) ≡ rowClasses) ⌝ }
     ensures { λ _. ⌜ Measures k (now (tree .entry)) (now (room .exit)) ⌝ }
 {
     let f = factor(k) as usize;
@@ -127,8 +128,8 @@ fn wide(classes: u16) -> u32
 }
 
 // The first anchor in node order whose whole run is free; a run is passed by its stretches of free classes.
-fn search(room: &[u16; LIST_BLOCKS], anchors: &[u16; LIST_BLOCKS], k: u32, floor: u32) -> Place
-    requires { ⌜ (k ≤ depth) × (floor ≤ 2 ^ k) × Anchors k (now anchors) × IsRoom k (now room) ⌝ }
+fn search(room: &[u16; ROW_CLASSES], anchors: &[u16; ROW_CLASSES], k: u32, floor: u32) -> Place
+    requires { ⌜ (k ≤ largestK) × (floor ≤ 2 ^ k) × Anchors k (now anchors) × IsRoom k (now room) ⌝ }
     ensures { λ r. ⌜ Searches k floor (now (room .entry)) r ⌝ }
 {
     let f = factor(k);
@@ -149,11 +150,11 @@ fn search(room: &[u16; LIST_BLOCKS], anchors: &[u16; LIST_BLOCKS], k: u32, floor
 
 // The first open anchor, by the free stretches of the depth.
 fn first_by_stretches(tree: &[u8; TREE_BYTES], k: u32, floor: u32) -> Place
-    requires { ⌜ (k ≤ depth) × (floor ≤ 2 ^ k) × IsTree (now tree) ⌝ }
+    requires { ⌜ (k ≤ largestK) × (floor ≤ 2 ^ k) × IsTree (now tree) ⌝ }
     ensures { λ r. ⌜ FindsFirst k floor (now (tree .entry)) r ⌝ }
 {
-    let mut anchors = [0u16; LIST_BLOCKS];
-    let mut room = [0u16; LIST_BLOCKS];
+    let mut anchors = [0u16; ROW_CLASSES];
+    let mut room = [0u16; ROW_CLASSES];
     list_anchors(k, &mut anchors);
     measure(tree, &anchors, k, &mut room);
     search(&room, &anchors, k, floor)
@@ -162,7 +163,7 @@ fn first_by_stretches(tree: &[u8; TREE_BYTES], k: u32, floor: u32) -> Place
 // The first anchor in node order whose whole run is free, block by block. The node of its first block is its own place, so
 // that a taken one is passed with no mirror.
 fn first_by_blocks(tree: &[u8; TREE_BYTES], k: u32, floor: u32) -> Place
-    requires { ⌜ (k ≤ depth) × (1 ≤ floor) × (floor ≤ 2 ^ k) × IsTree (now tree) ⌝ }
+    requires { ⌜ (k ≤ largestK) × (1 ≤ floor) × (floor ≤ 2 ^ k) × IsTree (now tree) ⌝ }
     ensures { λ r. ⌜ FindsFirst k floor (now (tree .entry)) r ⌝ }
 {
     let f = factor(k);
@@ -184,7 +185,7 @@ fn first_by_blocks(tree: &[u8; TREE_BYTES], k: u32, floor: u32) -> Place
 // The first open anchor, or none. A run of one or two blocks needs no measuring; of a longer one the trials that fail late
 // would take more than that (docs/BENCH.md has the counts).
 fn first_open(tree: &[u8; TREE_BYTES], k: u32, floor: u32) -> Place
-    requires { ⌜ (k ≤ depth) × (floor ≤ 2 ^ k) × IsTree (now tree) ⌝ }
+    requires { ⌜ (k ≤ largestK) × (floor ≤ 2 ^ k) × IsTree (now tree) ⌝ }
     ensures { λ r. ⌜ FindsFirst k floor (now (tree .entry)) r ⌝ }
 {
     match floor {

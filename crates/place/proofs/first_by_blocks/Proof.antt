@@ -12,6 +12,7 @@ use Rattle.rules.specs.TreeBytes.{treeOf, bitAt}
 use Rattle.rules.specs.Admit.{isOpen}
 use Rattle.rules.specs.Steps.{gives}
 use Rattle.basics.proofs.BoolLaws.{not-true-is-false, not-false-is-true}
+use Rattle.blocks.proofs.ClassLaws.{within-depth}
 use Rattle.place.proofs.SearchLaws.{Clear, shut-by, clear-next, own-shut, own-clear, found-at, found-none}
 use Rattle.place.proofs.first_by_blocks.Statement.{statement}
 use Rattle.place.proofs.first_by_blocks.Tie as tie
@@ -65,7 +66,7 @@ nodes-again c =
       omega arith,
       λ t m q h.
           by-cases (ℕ-discrete q (n .nodes .p))
-          (λ s. rw s (own-shut t (a .args .k) (n .nodes .p) (a .args .tree .now) (a .pre .0) (node-below (c .before .before)) m (a .args .floor) (a .pre .1) (own-bit (c .before) ∙ c .if1 .taken)))
+          (λ s. rw s (own-shut t (a .args .k) (n .nodes .p) (a .args .tree .now) (within-depth (a .pre .0)) (node-below (c .before .before)) m (a .args .floor) (a .pre .1) (own-bit (c .before) ∙ c .if1 .taken)))
           (λ s. n .nodes .inv .1 t m q (omega arith)),
     )
 
@@ -80,7 +81,7 @@ loop-holds c =
       refl,
       omega (arith, a .pre .1),
       omega (arith, a .pre .1),
-      λ t m. rw (c .mirror .ensures .is) (own-clear t (a .args .k) (n .nodes .p) (a .args .tree .now) (a .pre .0) (node-below (e .before .before)) m (own-bit (e .before) ∙ e .if1 .left)),
+      λ t m. rw (c .mirror .ensures .is) (own-clear t (a .args .k) (n .nodes .p) (a .args .tree .now) (within-depth (a .pre .0)) (node-below (e .before .before)) m (own-bit (e .before) ∙ e .if1 .left)),
     )
 
 class-at-requires : tie.Need-class-at-requires Inv-loop μ-loop Inv-nodes μ-nodes

@@ -1,11 +1,12 @@
 -- `place::list_anchors` meets its contract. The invariant: the anchors of the first 2p nodes have been listed.
 use mathlib.Core.Path.{_≡_}
-use Prim.Native.Nat.{_-_, _*_, _/_, _≤_, _<_, _^_}
+use Prim.Native.Nat.{_+_, _-_, _*_, _/_, _≤_, _<_, _^_}
 use native.Mathlib.Omega.{arith}
 use lib.Pow.{pow-mono}
 use lib.ListN.{getD}
 use Rattle.rules.specs.Mirror.{mirrored}
 use Rattle.blocks.proofs.MirrorLaws.{mirror-lt}
+use Rattle.place.specs.Promises.{rowClasses}
 use Rattle.place.proofs.SearchLaws.{ListedTo, listed-none, listed-at, listed-more, listed-all}
 use Rattle.place.proofs.list_anchors.Statement.{statement}
 use Rattle.place.proofs.list_anchors.Tie as tie
@@ -30,6 +31,13 @@ loop-holds c =
 -- a place with two after it
 place-below : (c : tie.In-loop Inv-loop μ-loop) → c .before .loop .p < 2 ^ c .before .before .before .args .k / 2
 place-below c = omega (arith, c .before .before .factor .ensures .is)
+
+-- both are in the row
+row-holds : (c : tie.In-loop Inv-loop μ-loop) → 2 * c .before .loop .p + 1 < rowClasses
+row-holds c =
+    let a = c .before .before .before in
+    let g : 2 ^ a .args .k ≤ rowClasses = pow-mono (a .pre .0) in
+    omega (arith, place-below c)
 
 -- the anchor of half the place
 half-is : (c : tie.In-loop Inv-loop μ-loop) → getD (c .before .loop .anchors) (c .before .loop .p) 0 ≡ mirrored (c .before .before .before .args .k) (c .before .loop .p)
@@ -57,7 +65,7 @@ mul-anchors-2 : tie.Need-mul-anchors-2 Inv-loop μ-loop
 mul-anchors-2 c = omega arith
 
 element-write-anchors-2 : tie.Need-element-write-anchors-2 Inv-loop μ-loop
-element-write-anchors-2 c = omega arith
+element-write-anchors-2 c = omega (arith, row-holds (c .before))
 
 cast-anchors-2 : tie.Need-cast-anchors-2 Inv-loop μ-loop
 cast-anchors-2 c = omega arith
@@ -66,7 +74,7 @@ add-anchors : tie.Need-add-anchors Inv-loop μ-loop
 add-anchors c =
     let n = c .before in
     let k = n .before .before .before .args .k in
-    let g : 2 ^ k ≤ 512 = pow-mono (n .before .before .before .pre .0) in
+    let g : 2 ^ k ≤ rowClasses = pow-mono (n .before .before .before .pre .0) in
     omega (arith, half-is n, mirror-lt k (n .before .loop .p), n .before .before .factor .ensures .is)
 
 mul-anchors-3 : tie.Need-mul-anchors-3 Inv-loop μ-loop
@@ -82,7 +90,7 @@ mul-anchors-4 : tie.Need-mul-anchors-4 Inv-loop μ-loop
 mul-anchors-4 c = omega arith
 
 element-write-anchors-3 : tie.Need-element-write-anchors-3 Inv-loop μ-loop
-element-write-anchors-3 c = omega arith
+element-write-anchors-3 c = omega (arith, row-holds (c .before))
 
 add-p : tie.Need-add-p Inv-loop μ-loop
 add-p c = omega arith

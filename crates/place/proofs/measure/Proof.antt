@@ -7,7 +7,9 @@ use lib.Pow.{pow-mono}
 use lib.ListN.{getD}
 use Rattle.rules.specs.Mirror.{mirrored}
 use Rattle.rules.specs.TreeBytes.{bitAt}
+use Rattle.blocks.proofs.ClassLaws.{within-depth}
 use Rattle.blocks.proofs.MirrorLaws.{mirror-lt}
+use Rattle.place.specs.Promises.{rowClasses}
 use Rattle.place.proofs.SearchLaws.{MeasuredFrom, shown, measured-none, measured-taken, measured-free, measured-all}
 use Rattle.place.proofs.measure.Statement.{statement}
 use Rattle.place.proofs.measure.Tie as tie
@@ -35,17 +37,24 @@ sub-c c = omega arith
 mul-is-set : tie.Need-mul-is-set Inv-loop μ-loop
 mul-is-set c = omega arith
 
+-- class c - 1 is in the row
+row-holds : (c : tie.In-loop Inv-loop μ-loop) → c .before .loop .c - 1 < rowClasses
+row-holds c =
+    let a = c .before .before .before in
+    let g : 2 ^ a .args .k ≤ rowClasses = pow-mono (a .pre .0) in
+    omega arith
+
 element-copy-out-is-set : tie.Need-element-copy-out-is-set Inv-loop μ-loop
-element-copy-out-is-set c = omega arith
+element-copy-out-is-set c = row-holds c
 
 -- the node of class c - 1
 place-is : (c : tie.In-loop Inv-loop μ-loop) → getD (c .before .before .before .args .anchors .now) (c .before .loop .c - 1) 0 ≡ mirrored (c .before .before .before .args .k) (c .before .loop .c - 1)
 place-is c = c .before .before .before .pre .1 (c .before .loop .c - 1) (omega arith)
 
-place-below : (c : tie.In-loop Inv-loop μ-loop) → getD (c .before .before .before .args .anchors .now) (c .before .loop .c - 1) 0 < 512
+place-below : (c : tie.In-loop Inv-loop μ-loop) → getD (c .before .before .before .args .anchors .now) (c .before .loop .c - 1) 0 < rowClasses
 place-below c =
     let a = c .before .before .before in
-    let g : 2 ^ a .args .k ≤ 512 = pow-mono (a .pre .0) in
+    let g : 2 ^ a .args .k ≤ rowClasses = pow-mono (a .pre .0) in
     omega (arith, place-is c, mirror-lt (a .args .k) (c .before .loop .c - 1))
 
 cast-is-set : tie.Need-cast-is-set Inv-loop μ-loop
@@ -64,7 +73,7 @@ mul-room : tie.Need-mul-room Inv-loop μ-loop
 mul-room c = omega arith
 
 element-write-room : tie.Need-element-write-room Inv-loop μ-loop
-element-write-room c = omega arith
+element-write-room c = row-holds (c .before .before .before)
 
 loop-less : tie.Need-loop-less Inv-loop μ-loop
 loop-less c = omega arith
@@ -90,7 +99,7 @@ returns c =
     let l = c .before .loop in
     let a = c .before .before .before in
     let e : l .c ≡ 0 = omega arith in
-    measured-all (a .args .k) (l .free) (a .args .tree .now) (l .room) (a .pre .0) (rw e at (l .inv))
+    measured-all (a .args .k) (l .free) (a .args .tree .now) (l .room) (within-depth (a .pre .0)) (rw e at (l .inv))
 
 pub measure-spec : {M : Type 1} → statement M
 measure-spec =

@@ -6,9 +6,8 @@ use mathlib.Core.Option.{Option, some}
 use Prim.Native.Nat.{ℕ, _≤_, _^_}
 use native.Mathlib.Nat.{le-trans}
 use lib.Pow.{pow-mono}
-use Rattle.rules.specs.Time.{listBlocks}
 use Rattle.rules.specs.Core.{isInterval}
-use Rattle.rules.specs.Classes.{depth}
+use Rattle.rules.specs.Ownership.{largestK}
 use Rattle.rules.specs.Admit.{intervalOutside, kOf, kIn, shareWrong}
 use Rattle.place.specs.Steps.{ofInterval, ofSmallest, ofRange, ofShare, ofPlace, rangeStep}
 use Rattle.blocks.proofs.ClassLaws.{within-depth}
@@ -23,8 +22,8 @@ use Rattle.place.proofs.plan.Tie as tie
 k-told : (c : tie.After-k) → (isInterval (c .before .before .before .before .args .largest) ≡ true) × (c .k .given .0 .0 ≡ kOf (c .before .before .before .before .args .largest))
 k-told c = interval-told _ _ (ap ofInterval (sym (c .k .given .1)) ∙ c .before .before .k-of .ensures)
 
-k-below : (c : tie.After-k) → c .k .given .0 .0 ≤ depth
-k-below c = rw (k-told c .1) (within-depth (k-small (c .before .before .before .before .args .largest)))
+k-below : (c : tie.After-k) → c .k .given .0 .0 ≤ largestK
+k-below c = rw (k-told c .1) (k-small (c .before .before .before .before .args .largest))
 
 -- the bounds are a range
 in-order : (c : tie.After-enum-told2) → intervalOutside (c .before .before .before .before .before .before .before .before .args .smallest) (c .before .before .before .before .before .before .before .before .args .largest) ≡ false
@@ -82,10 +81,10 @@ cast-factor : tie.Need-cast-factor
 cast-factor c = search needs
 
 factor-requires : tie.Need-factor-requires
-factor-requires c κs = k-below (c .before .before .before .before)
+factor-requires c κs = within-depth (k-below (c .before .before .before .before))
 
 range-of-requires : tie.Need-range-of-requires
-range-of-requires c κs = subst⁻¹ (λ (F : ℕ). F ≤ listBlocks) (c .factor .ensures .is) (pow-mono (k-below (c .before .before .before .before .before)))
+range-of-requires c κs = subst⁻¹ (λ (F : ℕ). F ≤ 2 ^ largestK) (c .factor .ensures .is) (pow-mono (k-below (c .before .before .before .before .before)))
 
 enum-told-4 : tie.Need-enum-told-4
 enum-told-4 c = search needs

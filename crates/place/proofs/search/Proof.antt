@@ -10,8 +10,9 @@ use lib.ListN.{getD}
 use lib.Pow.{pow-mono}
 use Rattle.rules.specs.Mirror.{mirrored}
 use Rattle.rules.specs.Admit.{isOpen}
+use Rattle.blocks.proofs.ClassLaws.{within-depth}
 use Rattle.blocks.proofs.MirrorLaws.{mirror-lt}
-use Rattle.place.specs.Promises.{Stretches}
+use Rattle.place.specs.Promises.{rowClasses, Stretches}
 use Rattle.place.proofs.SearchLaws.{Clear, clear-more, shut-at, found-at, found-none}
 use Rattle.place.proofs.search.Statement.{statement}
 use Rattle.place.proofs.search.Tie as tie
@@ -41,7 +42,10 @@ mul-a : tie.Need-mul-a Inv-loop μ-loop Inv-nodes μ-nodes
 mul-a c = search needs
 
 element-copy-out-a : tie.Need-element-copy-out-a Inv-loop μ-loop Inv-nodes μ-nodes
-element-copy-out-a c = search needs
+element-copy-out-a c =
+    let a = c .before .before .before in
+    let g : 2 ^ a .args .k ≤ rowClasses = pow-mono (a .pre .0) in
+    omega (arith, c .before .before .factor .ensures .is)
 
 -- the anchor of node p, and that it is below the factor
 anchor-is : (c : tie.In-nodes Inv-loop μ-loop Inv-nodes μ-nodes) → getD (c .before .before .before .args .anchors .now) (c .before .nodes .p) 0 ≡ mirrored (c .before .before .before .args .k) (c .before .nodes .p)
@@ -56,22 +60,22 @@ loop-holds c = (refl, λ t m i l. absurd (omega arith))
 cast-class-at : tie.Need-cast-class-at Inv-loop μ-loop Inv-nodes μ-nodes
 cast-class-at c =
     let n = c .before .before .before in
-    let g : 2 ^ n .before .before .before .args .k ≤ 512 = pow-mono (n .before .before .before .pre .0) in
+    let g : 2 ^ n .before .before .before .args .k ≤ rowClasses = pow-mono (n .before .before .before .pre .0) in
     omega (arith, anchor-below n)
 
 class-at-requires : tie.Need-class-at-requires Inv-loop μ-loop Inv-nodes μ-nodes
 class-at-requires c κs =
     let n = c .before .before .before in
-    (n .before .before .before .pre .0, anchor-below n, omega arith)
+    (within-depth (n .before .before .before .pre .0), anchor-below n, omega arith)
 
 cast-wide : tie.Need-cast-wide Inv-loop μ-loop Inv-nodes μ-nodes
 cast-wide c = search needs
 
--- the class is one of the list
-class-below : (c : tie.After-class-at Inv-loop μ-loop Inv-nodes μ-nodes) → c .class-at .result < 512
+-- the class is in the row
+class-below : (c : tie.After-class-at Inv-loop μ-loop Inv-nodes μ-nodes) → c .class-at .result < rowClasses
 class-below c =
     let a = c .before .before .before .before .before .before .before in
-    let g : 2 ^ a .args .k ≤ 512 = pow-mono (a .pre .0) in
+    let g : 2 ^ a .args .k ≤ rowClasses = pow-mono (a .pre .0) in
     omega (arith, c .class-at .ensures .below)
 
 mul-wide : tie.Need-mul-wide Inv-loop μ-loop Inv-nodes μ-nodes
