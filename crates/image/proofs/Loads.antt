@@ -6,9 +6,10 @@ use Prim.Native.Nat.{ℕ, suc, _+_}
 use lib.ListN.{length, take, drop}
 use Rattle.rules.specs.declared.Connection.{Connection}
 use Rattle.rules.specs.declared.Schedule.{Schedule}
-use Rattle.rules.specs.declared.Refusal.the-variants.{RecordsWrong, NumbersUnsound, BlockOwnedTwice, TreeDiffers}
+use Rattle.rules.specs.declared.Refusal.the-variants.{RecordsWrong, NumbersUnsound, FactorIllegal, BlockOwnedTwice, TreeDiffers}
 use Rattle.rules.specs.declared.Loaded.{Loaded}
 use Rattle.rules.specs.declared.Restored.{Restored}
+use Rattle.rules.specs.Ownership.{largestK}
 use Rattle.rules.specs.TreeBytes.{treeBytes}
 use Rattle.rules.specs.Good.{Good, treeFor, fresh, withConnections}
 use Rattle.rules.specs.Refusals.{number}
@@ -17,11 +18,11 @@ use Rattle.rules.specs.Bytes.{same}
 use Rattle.rules.specs.Records.{begin, piecesOf}
 use Rattle.rules.specs.Framing.{recordsWrong, Framed}
 use Rattle.rules.specs.Fields.{treeIn}
-use Rattle.rules.specs.Load.{soundRecords, atHandles, connectionsOf, load}
+use Rattle.rules.specs.Load.{largestRecordK, recordsWithin, anyIllegal, atHandles, connectionsOf, load}
 use Rattle.basics.proofs.BytesLaws.{AllBytes}
 use Rattle.images.proofs.ImageLaws.{load-good}
 use Rattle.images.proofs.FrameLaws.{connections-long, tree-place, tree-stands}
-use Rattle.images.proofs.LoadLaws.{load-9, load-10, load-11, load-12, load-ok}
+use Rattle.images.proofs.LoadLaws.{load-9, load-10, load-18, load-11, load-12, load-ok}
 use Rattle.restore.specs.Promises.{records, Restores}
 use Rattle.restore.proofs.Calls.{restores-apart}
 use Rattle.image.specs.Promises.{Loads}
@@ -39,10 +40,13 @@ module _ (s : Schedule) (good : Good s) (bytes : List ℕ) (b : AllBytes bytes) 
   unframed r e w = loads r (e ∙ load-9 s bytes w)
 
   module _ (n : ℕ) (f : Framed bytes n) where
-    pub unsound : (r : Loaded) → ofLoaded r ≡ refusing s (number NumbersUnsound) → soundRecords (records bytes) ≡ false → Loads s bytes r
+    pub unsound : (r : Loaded) → ofLoaded r ≡ refusing s (number NumbersUnsound) → recordsWithin largestRecordK (records bytes) ≡ false → Loads s bytes r
     unsound r e p = loads r (e ∙ load-10 s bytes n f p)
 
-    module _ (p : soundRecords (records bytes) ≡ true) (x : Restored) (t : Restores bytes x) where
+    pub illegal : (r : Loaded) → ofLoaded r ≡ refusing s (number FactorIllegal) → recordsWithin largestRecordK (records bytes) ≡ true → anyIllegal (records bytes) ≡ true → Loads s bytes r
+    illegal r e p d = loads r (e ∙ load-18 s bytes n f p d)
+
+    module _ (p : recordsWithin largestK (records bytes) ≡ true) (x : Restored) (t : Restores bytes x) where
       pub owned-twice : (r : Loaded) → ofLoaded r ≡ refusing s (number BlockOwnedTwice) → x .apart ≡ false → Loads s bytes r
       unfolding connectionsOf
       owned-twice r e q = loads r (e ∙ load-11 s bytes n f p (sym (t .says) ∙ q))

@@ -1,13 +1,18 @@
-//! Load: checks 9, 10, 11, 12, each over the whole image before the next.
+//! Load: checks 9, 10, 18, 11, 12, each over the whole image before the next.
 ghost use mathlib.Core.Path.{_≡_};
+ghost use mathlib.Core.Bool.{true};
 ghost use Prim.Native.Nat.{_+_};
 ghost use lib.ListN.{length, take, drop};
 ghost use Rattle.rules.specs.TreeBytes.{treeBytes};
 ghost use Rattle.rules.specs.Bytes.{same};
+ghost use Rattle.rules.specs.Ownership.{largestK};
 ghost use Rattle.rules.specs.Good.{Good};
+ghost use Rattle.rules.specs.Framing.{Framed};
+ghost use Rattle.rules.specs.Load.{recordsWithin};
+ghost use Rattle.restore.specs.Promises.{records};
 ghost use Rattle.image.specs.Promises.{Loads};
 use frame::framed;
-use restore::records_sound;
+use restore::check_records;
 use restore::restore;
 use rules::Frame;
 use rules::HEADER_SIZE;
@@ -15,6 +20,7 @@ use rules::Loaded;
 use rules::Loading;
 use rules::Refusal;
 use rules::Schedule;
+use rules::Soundness;
 use rules::TREE_BYTES;
 
 // Whether the last bytes of the image are the tree's; all are compared, which a machine does many at a time.
@@ -29,26 +35,12 @@ fn ends_with(bytes: &[u8], at: usize, tree: &[u8; TREE_BYTES]) -> bool
     same
 }
 
-/// The schedule of an image, in place of the old one, and how many connections it has.
-pub fn load(s: Schedule, bytes: &[u8]) -> Loaded
-    requires { ⌜ Good s ⌝ }
+// Checks 11 and 12, where those before them have passed.
+fn loaded(s: Schedule, bytes: &[u8], n: u8) -> Loaded
+    requires { ⌜ Good s × Framed (now bytes) n × (recordsWithin largestK (records (now bytes)) ≡ true) ⌝ }
     ensures { λ r. ⌜ Loads s (now (bytes .entry)) r ⌝ }
 {
-    let frame = framed(bytes);
-    let Frame::Counts(n) = frame else {
-        return Loaded {
-            answer: Loading::Refused(Refusal::RecordsWrong),
-            schedule: s,
-        };
-    };
-    let count = n as usize;
-    if !records_sound(bytes, count) {
-        return Loaded {
-            answer: Loading::Refused(Refusal::NumbersUnsound),
-            schedule: s,
-        };
-    }
-    let new = restore(bytes, count);
+    let new = restore(bytes, n as usize);
     if !new.apart {
         return Loaded {
             answer: Loading::Refused(Refusal::BlockOwnedTwice),
@@ -64,5 +56,30 @@ pub fn load(s: Schedule, bytes: &[u8]) -> Loaded
     Loaded {
         answer: Loading::Count(n),
         schedule: new.schedule,
+    }
+}
+
+/// The schedule of an image, in place of the old one, and how many connections it has.
+pub fn load(s: Schedule, bytes: &[u8]) -> Loaded
+    requires { ⌜ Good s ⌝ }
+    ensures { λ r. ⌜ Loads s (now (bytes .entry)) r ⌝ }
+{
+    let frame = framed(bytes);
+    let Frame::Counts(n) = frame else {
+        return Loaded {
+            answer: Loading::Refused(Refusal::RecordsWrong),
+            schedule: s,
+        };
+    };
+    match check_records(bytes, n as usize) {
+        Soundness::Unsound => Loaded {
+            answer: Loading::Refused(Refusal::NumbersUnsound),
+            schedule: s,
+        },
+        Soundness::Illegal => Loaded {
+            answer: Loading::Refused(Refusal::FactorIllegal),
+            schedule: s,
+        },
+        Soundness::Sound => loaded(s, bytes, n),
     }
 }

@@ -1,27 +1,32 @@
 -- The records of the connections in the bytes of an image, and the test of their numbers.
-use mathlib.Core.Path.{_≡_, sym, ap, _∙_}
-use mathlib.Core.Bool.{true, false}
+use mathlib.Core.Path.{_≡_, sym, ap, ap₂, _∙_}
+use mathlib.Core.Bool.{Bool, true, false, _||_, or-assoc, or-false}
 use mathlib.Core.List.{List, _∷_}
 use Prim.Native.Nat.{ℕ, suc, _+_, _^_, _<_, _≤_}
 use native.Mathlib.Numerals.{add-one}
 use native.Mathlib.Omega.{arith}
 use lib.ListN.{length, take, drop, length-take, length-drop, drop-of-length-le}
 use lib.Seq.{drop-cons}
+use lib.Dec.{ltb}
 use Rattle.rules.specs.declared.Connection.{Connection}
-use Rattle.rules.specs.Ownership.{handles}
-use Rattle.rules.specs.Sound.{Numbers, soundNumbers}
+use Rattle.rules.specs.declared.Refusal.the-variants.{NumbersUnsound}
+use Rattle.rules.specs.Ownership.{handles, largestK}
+use Rattle.rules.specs.Sound.{NumbersWithin, numbersWithin}
+use Rattle.rules.specs.Refusals.{number}
+use Rattle.rules.specs.Steps.{refuses}
 use Rattle.rules.specs.Bytes.{littleNumber}
 use Rattle.rules.specs.Records.{Piece, begin, piecesOf}
 use Rattle.rules.specs.Form.{connectionSize}
 use Rattle.rules.specs.Framing.{Framed}
 use Rattle.rules.specs.Fields.{fieldIn, handleIn, connectionIn}
-use Rattle.rules.specs.Load.{soundRecords}
+use Rattle.rules.specs.Load.{largestRecordK, anyIllegal}
 use Rattle.basics.proofs.BoolLaws.{is-false}
 use Rattle.basics.proofs.BytesLaws.{AllBytes, bytes-take, bytes-drop, number-lt}
-use Rattle.blocks.proofs.SoundLaws.{numbers-sound}
+use Rattle.blocks.proofs.SoundLaws.{numbers-within}
 use Rattle.images.proofs.RisingLaws.{soundFrom, sound-from, pieces-pass, handle-above, handle-falls, numbers-fail}
 use Rattle.images.proofs.PieceLaws.{nth, stands-whole, stands-part}
 use Rattle.images.proofs.FrameLaws.{next-first, first-whole, connection-stands, connection-sized, next-connection}
+use Rattle.restore.specs.LoadSteps.{checked, recordsStep}
 use Rattle.restore.specs.Promises.{GoesOn, Reads, records}
 
 -- ---- a number of a record
@@ -57,33 +62,49 @@ module _ (bytes : List ℕ) (n : ℕ) (f : Framed bytes n) (small : AllBytes byt
         rw (add-one i) (e ∙ ap (λ (k : ℕ). k + (4 + littleNumber (take 2 (drop k bytes)))) at ∙ sym (next-connection bytes n f small i l))
 
 -- ---- the numbers of a connection
-pub unsound : (c : Connection) → (Numbers c → ⊥) → soundNumbers c ≡ false
-unsound c n = is-false (soundNumbers c) (λ e. n (numbers-sound c .0 e))
+pub unsound : (c : Connection) → (NumbersWithin largestRecordK c → ⊥) → numbersWithin largestRecordK c ≡ false
+unsound c n = is-false (numbersWithin largestRecordK c) (λ e. n (numbers-within largestRecordK c .0 e))
 
--- ---- check 10 up to record i: what it says is what the records from i on say
-abbrev pub Tested : List Piece → ℕ → ℕ → Type 0
-Tested rs i least = soundRecords rs ≡ soundFrom least (drop i rs)
+-- ---- both checks up to record i: what they say is what they say of the records from i on, where `illegal` says whether a k above 8 was seen
+abbrev pub Tested : List Piece → ℕ → ℕ → Bool → Type 0
+Tested rs i least illegal = recordsStep rs ≡ checked (soundFrom largestRecordK least (drop i rs)) (illegal || anyIllegal (drop i rs))
 
-pub tested-none : (rs : List Piece) → Tested rs 0 0
-tested-none rs = sound-from rs
+pub tested-none : (rs : List Piece) → Tested rs 0 0 false
+unfolding recordsStep
+tested-none rs = ap (λ (v : Bool). checked v (anyIllegal rs)) (sound-from largestRecordK rs)
 
-module _ (rs : List Piece) (i least h : ℕ) (l : i < length rs) (t : Tested rs i least) (e : h ≡ handleIn (nth rs i)) where
-  begun : soundRecords rs ≡ soundFrom least (nth rs i ∷ drop (suc i) rs)
-  begun = t ∙ ap (soundFrom least) (drop-cons rs i _ l)
+module _ (rs : List Piece) (i least h : ℕ) (illegal : Bool) (l : i < length rs) (t : Tested rs i least illegal) (e : h ≡ handleIn (nth rs i)) where
+  begun : recordsStep rs ≡ checked (soundFrom largestRecordK least (nth rs i ∷ drop (suc i) rs)) (illegal || anyIllegal (nth rs i ∷ drop (suc i) rs))
+  begun = t ∙ ap (λ (xs : List Piece). checked (soundFrom largestRecordK least xs) (illegal || anyIllegal xs)) (drop-cons rs i _ l)
 
-  pub tested-above : handles ≤ h → soundRecords rs ≡ false
-  tested-above m = begun ∙ handle-above least (nth rs i) (drop (suc i) rs) (omega arith)
+  -- It is unsound: whatever k was seen, that is 10.
+  unsound-here : soundFrom largestRecordK least (nth rs i ∷ drop (suc i) rs) ≡ false → refuses (number NumbersUnsound) ≡ recordsStep rs
+  unfolding checked
+  unsound-here s = sym (begun ∙ ap (λ (v : Bool). checked v (illegal || anyIllegal (nth rs i ∷ drop (suc i) rs))) s)
 
-  pub tested-falls : h < least → soundRecords rs ≡ false
-  tested-falls q = begun ∙ handle-falls least (nth rs i) (drop (suc i) rs) (omega arith)
+  pub tested-above : handles ≤ h → refuses (number NumbersUnsound) ≡ recordsStep rs
+  tested-above m = unsound-here (handle-above largestRecordK least (nth rs i) (drop (suc i) rs) (omega arith))
 
-  pub tested-fails : soundNumbers (connectionIn (nth rs i)) ≡ false → soundRecords rs ≡ false
-  tested-fails s = begun ∙ numbers-fail least (nth rs i) (drop (suc i) rs) s
+  pub tested-falls : h < least → refuses (number NumbersUnsound) ≡ recordsStep rs
+  tested-falls q = unsound-here (handle-falls largestRecordK least (nth rs i) (drop (suc i) rs) (omega arith))
 
-  pub tested-more : h < handles → least ≤ h → soundNumbers (connectionIn (nth rs i)) ≡ true → Tested rs (i + 1) (h + 1)
-  tested-more m q s =
-      rw (add-one i, add-one h, e) (begun ∙ pieces-pass least (nth rs i) (drop (suc i) rs) (omega arith) (omega arith) s)
+  pub tested-fails : numbersWithin largestRecordK (connectionIn (nth rs i)) ≡ false → refuses (number NumbersUnsound) ≡ recordsStep rs
+  tested-fails s = unsound-here (numbers-fail largestRecordK least (nth rs i) (drop (suc i) rs) s)
 
-pub tested-all : (rs : List Piece) (i least : ℕ) → length rs ≤ i → Tested rs i least → soundRecords rs ≡ true
-unfolding soundFrom
-tested-all rs i least l t = t ∙ ap (soundFrom least) (drop-of-length-le rs l)
+  pub tested-more : h < handles → least ≤ h → numbersWithin largestRecordK (connectionIn (nth rs i)) ≡ true → (k : ℕ) → k ≡ connectionIn (nth rs i) .k
+      → Tested rs (i + 1) (h + 1) (illegal || ltb largestK k)
+  unfolding anyIllegal
+  tested-more m q s k ek =
+      rw (add-one i, add-one h, e, ek)
+      (begun
+      ∙ ap₂ checked
+      (pieces-pass largestRecordK least (nth rs i) (drop (suc i) rs) (omega arith) (omega arith) s)
+      (sym (or-assoc illegal (ltb largestK (connectionIn (nth rs i) .k)) (anyIllegal (drop (suc i) rs)))))
+
+-- No record is left: what was seen decides.
+pub tested-all : (rs : List Piece) (i least : ℕ) (illegal v : Bool) → length rs ≤ i → Tested rs i least illegal → illegal ≡ v → checked true v ≡ recordsStep rs
+unfolding soundFrom anyIllegal
+tested-all rs i least illegal v l t e =
+    sym (t
+    ∙ ap (λ (xs : List Piece). checked (soundFrom largestRecordK least xs) (illegal || anyIllegal xs)) (drop-of-length-le rs l)
+    ∙ ap (checked true) (or-false illegal ∙ e))

@@ -10,7 +10,7 @@ use lib.Seq.{take-length, take-suc}
 use Rattle.rules.specs.declared.Connection.{Connection}
 use Rattle.rules.specs.declared.Schedule.{Schedule}
 use Rattle.rules.specs.declared.Restored.{Restored}
-use Rattle.rules.specs.Ownership.{handles, taken}
+use Rattle.rules.specs.Ownership.{handles, largestK, taken}
 use Rattle.rules.specs.Classes.{runFree}
 use Rattle.blocks.specs.Taking.{setRun}
 use Rattle.rules.specs.TreeBytes.{treeOf}
@@ -18,7 +18,7 @@ use Rattle.rules.specs.Sound.{Numbers, apart}
 use Rattle.rules.specs.Good.{treeFor, fresh, withConnections}
 use Rattle.rules.specs.Records.{Piece}
 use Rattle.rules.specs.Fields.{handleIn, connectionIn}
-use Rattle.rules.specs.Load.{soundRecords, atHandles}
+use Rattle.rules.specs.Load.{recordsWithin, atHandles}
 use Rattle.images.proofs.RestoreLaws.{numbers-here, handle-here, placed-here, run-apart, run-clash, run-tree, sound-next, clash-first, apart-none}
 use Rattle.tree.specs.Promises.{IsTree}
 use Rattle.run.specs.Promises.{RunFreeSays, SetsRun}
@@ -40,7 +40,7 @@ taken-none rs s e = rw e (record { placed = refl; marked = refl; separate = apar
 pub taken-tree : (rs : List Piece) (i : ℕ) (cs : List Connection) (tree : List ℕ) → FirstTaken rs i cs tree → IsTree tree
 taken-tree rs i cs tree w = (taken (atHandles (take i rs)), w .marked)
 
-module _ (rs : List Piece) (i : ℕ) (l : i < length rs) (e : soundRecords rs ≡ true) (c : Connection) (ec : c ≡ connectionIn (nth rs i)) where
+module _ (rs : List Piece) (i : ℕ) (l : i < length rs) (e : recordsWithin largestK rs ≡ true) (c : Connection) (ec : c ≡ connectionIn (nth rs i)) where
   pub turn-numbers : Numbers c
   turn-numbers = subst Numbers (sym ec) (numbers-here (take i rs) (nth rs i) (sound-next rs e i l))
 
@@ -98,7 +98,7 @@ module _ (bytes : List ℕ) (i : ℕ) (cs : List Connection) (tree : List ℕ) (
       let all : apart (atHandles (records bytes)) ≡ true = sym (ap (λ (k : ℕ). apart (atHandles (take k (records bytes)))) q ∙ ap (λ (xs : List Piece). apart (atHandles xs)) (take-length (records bytes))) ∙ w .separate in
       restores (a ∙ sym all) (most-all (records bytes) all ∙ sym q)
 
-  pub restores-not : i < length (records bytes) → soundRecords (records bytes) ≡ true → r .apart ≡ false → apart (atHandles (take (suc i) (records bytes))) ≡ false → Restores bytes r
+  pub restores-not : i < length (records bytes) → recordsWithin largestK (records bytes) ≡ true → r .apart ≡ false → apart (atHandles (take (suc i) (records bytes))) ≡ false → Restores bytes r
   restores-not l e a c =
       let all : apart (atHandles (records bytes)) ≡ false = ap (λ (xs : List Piece). apart (atHandles xs)) (sym (take-length (records bytes))) ∙ clash-first (records bytes) e (length (records bytes)) (suc i) l (omega arith) c in
       restores (a ∙ sym all) (most-clash (records bytes) i l e (w .separate) c)

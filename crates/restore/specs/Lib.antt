@@ -1,2 +1,3 @@
 -- What the checks of the connections promise.
+pub mod LoadSteps
 pub mod Promises

@@ -1,22 +1,26 @@
-//! The connections of an image: checks 10 and 11 of a load.
+//! The connections of an image: checks 10, 18 and 11 of a load.
 ghost use mathlib.Core.Path.{_≡_};
 ghost use mathlib.Core.Bool.{true};
 ghost use Prim.Native.Nat.{_+_, _<_, _≤_, _^_};
 ghost use lib.ListN.{length, take, drop};
-ghost use Rattle.rules.specs.Sound.{soundNumbers};
+ghost use Rattle.rules.specs.Ownership.{largestK};
+ghost use Rattle.rules.specs.Sound.{numbersWithin};
 ghost use Rattle.rules.specs.Bytes.{littleNumber};
 ghost use Rattle.rules.specs.Records.{headerSize};
 ghost use Rattle.rules.specs.Form.{connectionSize};
 ghost use Rattle.rules.specs.Framing.{Framed};
 ghost use Rattle.rules.specs.Fields.{fieldIn, handleIn, connectionIn};
-ghost use Rattle.rules.specs.Load.{soundRecords};
+ghost use Rattle.rules.specs.Load.{largestRecordK, recordsWithin};
+ghost use Rattle.restore.specs.LoadSteps.{ofSoundness, recordsStep};
 ghost use Rattle.restore.specs.Promises.{Reads, records, Restores};
 use rules::BLOCK_MICROS;
 use rules::Connection;
 use rules::HANDLES;
 use rules::HEADER_SIZE;
 use rules::LARGEST_K;
+use rules::LARGEST_RECORD_K;
 use rules::Restored;
+use rules::Soundness;
 use run::factor;
 use run::fresh;
 use run::run_free;
@@ -62,11 +66,11 @@ fn connection_at(bytes: &[u8], at: usize) -> Connection
     }
 }
 
-// 1 ≤ floor ≤ L ≤ ceiling ≤ F = 2^k, k at most 9, the anchor below F, the estimate at most L × 7,500.
-fn numbers_sound(c: Connection) -> bool
-    ensures { λ r. ⌜ r ≡ soundNumbers c ⌝ }
+// 1 ≤ floor ≤ L ≤ ceiling ≤ F = 2^k, the anchor below F, the estimate at most L × 7,500; and k at most what a record may say.
+fn numbers_within(c: Connection) -> bool
+    ensures { λ r. ⌜ r ≡ numbersWithin largestRecordK c ⌝ }
 {
-    if c.k > LARGEST_K {
+    if c.k > LARGEST_RECORD_K {
         return false;
     }
     let f = factor(c.k as u32);
@@ -91,33 +95,41 @@ fn numbers_sound(c: Connection) -> bool
     true
 }
 
-/// Check 10: each record's numbers are sound, and the handles rise.
-pub fn records_sound(bytes: &[u8], n: usize) -> bool
+/// Check 10: each record's numbers are sound, and the handles rise. Check 18: no k is above the largest of a connection. A record that is unsound ends
+/// it, so that a k of 9 yields to a later 10.
+pub fn check_records(bytes: &[u8], n: usize) -> Soundness
     requires { ⌜ Framed (now bytes) n ⌝ }
-    ensures { λ r. ⌜ r ≡ soundRecords (records (now (bytes .entry))) ⌝ }
+    ensures { λ r. ⌜ ofSoundness r ≡ recordsStep (records (now (bytes .entry))) ⌝ }
 {
     let mut cursor = next(bytes, 0);
     let mut least: u8 = 0;
+    let mut illegal = false;
     for i in 0..n {
         let h = handle_at(bytes, cursor);
         if h >= HANDLES as u8 {
-            return false;
+            return Soundness::Unsound;
         }
         if h < least {
-            return false;
+            return Soundness::Unsound;
         }
-        if !numbers_sound(connection_at(bytes, cursor)) {
-            return false;
+        let c = connection_at(bytes, cursor);
+        let k = c.k;
+        if !numbers_within(c) {
+            return Soundness::Unsound;
         }
+        illegal = illegal | (k > LARGEST_K);
         least = h + 1;
         cursor = next(bytes, cursor);
     }
-    true
+    if illegal {
+        return Soundness::Illegal;
+    }
+    Soundness::Sound
 }
 
 /// Check 11: the connections of the records with their tree, taken one after the other on an empty tree; or two of them own one block.
 pub fn restore(bytes: &[u8], n: usize) -> Restored
-    requires { ⌜ Framed (now bytes) n × (soundRecords (records (now bytes)) ≡ true) ⌝ }
+    requires { ⌜ Framed (now bytes) n × (recordsWithin largestK (records (now bytes)) ≡ true) ⌝ }
     ensures { λ r. ⌜ Restores (now (bytes .entry)) r ⌝ }
 {
     let mut s = fresh();

@@ -87,6 +87,7 @@ pub fn refusal_number(r: Refusal) -> u32
         Refusal::NoInterval => 15,
         Refusal::MessageWrong => 16,
         Refusal::ValuesForbidden => 17,
+        Refusal::FactorIllegal => 18,
     }
 }
 

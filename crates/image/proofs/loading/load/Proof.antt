@@ -1,16 +1,15 @@
 -- `image::load` meets its contract: each exit is one check, after those before it.
 use borrow.Author.Needs.{needs}
-use mathlib.Core.Path.{_≡_, refl, sym, _∙_, subst}
-use Prim.Native.Nat.{_+_}
+use mathlib.Core.Path.{refl, sym, ap, _∙_, subst}
 use native.Mathlib.Omega.{arith}
-use borrow.Author.Tests.{not-true, not-false}
-use lib.ListN.{length}
 use Rattle.rules.specs.declared.Frame.{Frame}
-use Rattle.rules.specs.TreeBytes.{treeBytes}
 use Rattle.rules.specs.Framing.{Framed}
 use Rattle.frame.specs.Promises.{ofFrame, Frames}
 use Rattle.basics.proofs.BytesLaws.{AllBytes}
-use Rattle.image.proofs.Loads.{unframed, unsound, owned-twice, tree-long, tree-last, differs, accepted}
+use Rattle.restore.specs.LoadSteps.{ofSoundness}
+use Rattle.restore.specs.Promises.{records}
+use Rattle.restore.proofs.Calls.{checked-sound, checked-illegal, checked-unsound}
+use Rattle.image.proofs.Loads.{unframed, unsound, illegal}
 use Rattle.image.proofs.loading.load.Statement.{statement}
 use Rattle.image.proofs.loading.load.Tie as tie
 
@@ -38,66 +37,46 @@ returns c =
     let wrong = subst (λ (x : Frame). Frames (a .args .bytes .now) (ofFrame x)) (c .enum-told .given .1) (f .framed .ensures) in
     unframed (a .args .s) (a .pre) (a .args .bytes .now) (small (f .before)) _ refl (wrong .1)
 
-cast-count : tie.Need-cast-count
-cast-count c = search needs
+cast-check-records : tie.Need-cast-check-records
+cast-check-records c = search needs
 
-records-sound-requires : tie.Need-records-sound-requires
-records-sound-requires c κs = whole (c .before)
+check-records-requires : tie.Need-check-records-requires
+check-records-requires c κs = whole (c .before)
+
+enum-told-2 : tie.Need-enum-told-2
+enum-told-2 c = search needs
+
+enum-told-3 : tie.Need-enum-told-3
+enum-told-3 c = search needs
+
+enum-told-4 : tie.Need-enum-told-4
+enum-told-4 c = search needs
+
+loaded-requires : tie.Need-loaded-requires
+loaded-requires c κs =
+    let checked = c .before .before in
+    let k = checked .before .before in
+    let a = k .before .before .before .before in
+    (a .pre, whole k, checked-sound (records (a .args .bytes .now)) (ap ofSoundness (sym (c .enum-told4 .given .1)) ∙ checked .check-records .ensures))
 
 returns-2 : tie.Need-returns-2
 returns-2 c =
-    let k = c .before .before .before in
+    let checked = c .before .before in
+    let k = checked .before .before in
     let a = k .before .before .before .before in
-    unsound (a .args .s) (a .pre) (a .args .bytes .now) (small (k .before .before .before)) (k .frame .given .0 .0) (whole k) _ refl (sym (c .before .records-sound .ensures) ∙ not-true _ (c .if1 .taken))
-
-restore-requires : tie.Need-restore-requires
-restore-requires c κs =
-    let k = c .before .before .before in
-    (whole k, sym (c .before .records-sound .ensures) ∙ not-false _ (c .if1 .left))
+    unsound (a .args .s) (a .pre) (a .args .bytes .now) (small (k .before .before .before)) (k .frame .given .0 .0) (whole k) _ refl
+    (checked-unsound (records (a .args .bytes .now)) (ap ofSoundness (sym (c .enum-told2 .given .1)) ∙ checked .check-records .ensures))
 
 returns-3 : tie.Need-returns-3
 returns-3 c =
-    let new = c .before in
-    let sound = new .before in
-    let k = c .before .before .before .before .before in
+    let checked = c .before .before in
+    let k = checked .before .before in
     let a = k .before .before .before .before in
-    owned-twice (a .args .s) (a .pre) (a .args .bytes .now) (small (k .before .before .before)) (k .frame .given .0 .0) (whole k) (sym (sound .before .records-sound .ensures) ∙ not-false _ (sound .if1 .left)) (new .restore .result) (new .restore .ensures) _ refl (not-true _ (c .if2 .taken))
-
--- where the tree's bytes are
-place : (c : tie.Else2) → c .before .restore .result .end + 4 + treeBytes ≡ length (c .before .before .before .before .before .before .before .before .before .args .bytes .now)
-place c =
-    let new = c .before in
-    let sound = new .before in
-    let k = c .before .before .before .before .before in
-    let a = k .before .before .before .before in
-    tree-last (a .args .s) (a .pre) (a .args .bytes .now) (small (k .before .before .before)) (k .frame .given .0 .0) (whole k) (sym (sound .before .records-sound .ensures) ∙ not-false _ (sound .if1 .left)) (new .restore .result) (new .restore .ensures) (not-false _ (c .if2 .left))
-
-add-ends-with : tie.Need-add-ends-with
-add-ends-with c = omega (arith, place c)
-
-ends-with-requires : tie.Need-ends-with-requires
-ends-with-requires c κs =
-    let new = c .before .before .before in
-    let sound = new .before in
-    let k = c .before .before .before .before .before .before .before in
-    let a = k .before .before .before .before in
-    (place (c .before .before), tree-long (a .args .s) (a .pre) (a .args .bytes .now) (small (k .before .before .before)) (k .frame .given .0 .0) (whole k) (sym (sound .before .records-sound .ensures) ∙ not-false _ (sound .if1 .left)) (new .restore .result) (new .restore .ensures) (not-false _ (c .before .before .if2 .left)))
+    let w = checked-illegal (records (a .args .bytes .now)) (ap ofSoundness (sym (c .enum-told3 .given .1)) ∙ checked .check-records .ensures) in
+    illegal (a .args .s) (a .pre) (a .args .bytes .now) (small (k .before .before .before)) (k .frame .given .0 .0) (whole k) _ refl (w .0) (w .1)
 
 returns-4 : tie.Need-returns-4
-returns-4 c =
-    let new = c .before .before .before .before .before in
-    let sound = new .before in
-    let k = c .before .before .before .before .before .before .before .before .before in
-    let a = k .before .before .before .before in
-    differs (a .args .s) (a .pre) (a .args .bytes .now) (small (k .before .before .before)) (k .frame .given .0 .0) (whole k) (sym (sound .before .records-sound .ensures) ∙ not-false _ (sound .if1 .left)) (new .restore .result) (new .restore .ensures) (not-false _ (c .before .before .before .before .if2 .left)) _ refl (sym (c .before .ends-with .ensures) ∙ not-true _ (c .if3 .taken))
-
-returns-5 : tie.Need-returns-5
-returns-5 c =
-    let new = c .before .before .before .before .before .before in
-    let sound = new .before in
-    let k = c .before .before .before .before .before .before .before .before .before .before in
-    let a = k .before .before .before .before in
-    accepted (a .args .s) (a .pre) (a .args .bytes .now) (small (k .before .before .before)) (k .frame .given .0 .0) (whole k) (sym (sound .before .records-sound .ensures) ∙ not-false _ (sound .if1 .left)) (new .restore .result) (new .restore .ensures) (not-false _ (c .before .before .before .before .before .if2 .left)) _ refl (sym (c .before .before .ends-with .ensures) ∙ not-false _ (c .before .if3 .left))
+returns-4 c = search needs
 
 pub load-spec : {M : Type 1} → statement M
 load-spec =
@@ -107,12 +86,12 @@ load-spec =
     enum-known-frame
     enum-told
     returns
-    cast-count
-    records-sound-requires
+    cast-check-records
+    check-records-requires
+    enum-told-2
+    enum-told-3
+    enum-told-4
+    loaded-requires
     returns-2
-    restore-requires
     returns-3
-    add-ends-with
-    ends-with-requires
-    returns-4
-    returns-5)
+    returns-4)

@@ -1,11 +1,11 @@
--- `restore::numbers_sound` meets its contract: each exit is one bound of sound numbers.
+-- `restore::numbers_within` meets its contract: each exit is one bound of sound numbers.
 use borrow.Author.Needs.{needs}
 use native.Mathlib.Omega.{arith}
 use mathlib.Core.Path.{sym}
-use Rattle.blocks.proofs.SoundLaws.{numbers-sound}
+use Rattle.blocks.proofs.SoundLaws.{numbers-within}
 use Rattle.restore.proofs.Records.{unsound}
-use Rattle.restore.proofs.numbers_sound.Statement.{statement}
-use Rattle.restore.proofs.numbers_sound.Tie as tie
+use Rattle.restore.proofs.numbers_within.Statement.{statement}
+use Rattle.restore.proofs.numbers_within.Tie as tie
 
 returns : tie.Need-returns
 returns c = sym (unsound _ (λ n. omega arith))
@@ -44,10 +44,10 @@ returns-7 : tie.Need-returns-7
 returns-7 c = sym (unsound _ (λ n. omega arith))
 
 returns-8 : tie.Need-returns-8
-returns-8 c = sym (numbers-sound _ .1 (record { deep = omega arith; anchored = omega arith; positive = omega arith; floored = omega arith; ceiled = omega arith; whole = omega arith; metered = omega arith }))
+returns-8 c = sym (numbers-within _ _ .1 (record { deep = omega arith; anchored = omega arith; positive = omega arith; floored = omega arith; ceiled = omega arith; whole = omega arith; metered = omega arith }))
 
-pub numbers-sound-spec : {M : Type 1} → statement M
-numbers-sound-spec =
+pub numbers-within-spec : {M : Type 1} → statement M
+numbers-within-spec =
     tie.close
     (tie.spec
     returns

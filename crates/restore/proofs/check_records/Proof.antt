@@ -1,26 +1,30 @@
--- `restore::records_sound` meets its contract. The invariant: the cursor is before record i, and what the check says is what it says of the records from i on, above `least`.
+-- `restore::check_records` meets its contract. The invariant: the cursor is before record i, and what the checks say is what they say of the records from i on, above `least`, with what was seen of k.
 use borrow.Author.Needs.{needs}
 use mathlib.Core.Path.{_≡_, sym, ap, _∙_}
+use mathlib.Core.Bool.{true, false}
 use Prim.Native.Nat.{_+_, _-_, _<_, _≤_}
 use native.Mathlib.Omega.{arith}
 use lib.ListN.{length}
 use borrow.Author.Tests.{not-true, not-false}
-use Rattle.rules.specs.Sound.{soundNumbers}
+use Rattle.rules.specs.declared.Connection.{Connection}
+use Rattle.rules.specs.Sound.{numbersWithin}
+use Rattle.rules.specs.Load.{largestRecordK}
 use Rattle.rules.specs.Form.{connectionSize}
 use Rattle.rules.specs.Fields.{handleIn, connectionIn}
 use Rattle.basics.proofs.BytesLaws.{AllBytes}
 use Rattle.images.proofs.FrameLaws.{connections-long}
+use Rattle.restore.specs.LoadSteps.{checked}
 use Rattle.restore.specs.Promises.{GoesOn, records}
 use Rattle.restore.proofs.Records.{Cursor, room-first, cursor-first, goes-on, cursor-room, cursor-next, Tested, tested-none, tested-above, tested-falls, tested-fails, tested-more, tested-all}
-use Rattle.restore.proofs.records_sound.Statement.{statement}
-use Rattle.restore.proofs.records_sound.Tie as tie
+use Rattle.restore.proofs.check_records.Statement.{statement}
+use Rattle.restore.proofs.check_records.Tie as tie
 use Rattle.images.proofs.PieceLaws.{nth}
 
 abbrev Inv-loop : tie.InvT-loop
-Inv-loop bytes n cursor₀ least₀ i₀ cursor least i = (i ≤ n) × Cursor bytes i cursor × Tested (records bytes) i least
+Inv-loop bytes n cursor₀ least₀ illegal₀ i₀ cursor least illegal i = (i ≤ n) × Cursor bytes i cursor × Tested (records bytes) i least illegal
 
 abbrev μ-loop : tie.MeasureT-loop
-μ-loop bytes n cursor₀ least₀ i₀ cursor least i = n - i
+μ-loop bytes n cursor₀ least₀ illegal₀ i₀ cursor least illegal i = n - i
 
 -- the slice holds bytes
 small : (c : tie.After-shared-slice-known Inv-loop μ-loop) → AllBytes (c .before .args .bytes .now)
@@ -73,25 +77,30 @@ returns c =
     let h = c .before in
     let l = h .before .before .loop in
     let a = h .before .before .before .before .before .args in
-    sym (tested-above (records (a .bytes .now)) (l .i) (l .least) (h .handle-at .result) (inside (h .before)) (l .inv .2) (handle-read h) (c .if1 .taken))
+    tested-above (records (a .bytes .now)) (l .i) (l .least) (h .handle-at .result) (l .illegal) (inside (h .before)) (l .inv .2) (handle-read h) (c .if1 .taken)
 
 returns-2 : tie.Need-returns-2 Inv-loop μ-loop
 returns-2 c =
     let h = c .before .before in
     let l = h .before .before .loop in
     let a = h .before .before .before .before .before .args in
-    sym (tested-falls (records (a .bytes .now)) (l .i) (l .least) (h .handle-at .result) (inside (h .before)) (l .inv .2) (handle-read h) (c .if2 .taken))
+    tested-falls (records (a .bytes .now)) (l .i) (l .least) (h .handle-at .result) (l .illegal) (inside (h .before)) (l .inv .2) (handle-read h) (c .if2 .taken)
 
 connection-at-requires : tie.Need-connection-at-requires Inv-loop μ-loop
 connection-at-requires c κs = room (c .before .before .before)
 
-numbers-sound-requires : tie.Need-numbers-sound-requires Inv-loop μ-loop
-numbers-sound-requires c κs = search needs
+numbers-within-requires : tie.Need-numbers-within-requires Inv-loop μ-loop
+numbers-within-requires c κs = search needs
 
--- what the test says of the record's connection
-numbers-said : (c : tie.After-numbers-sound Inv-loop μ-loop)
-    → soundNumbers (connectionIn (nth (records (c .before .before .before .before .before .before .before .before .before .args .bytes .now)) (c .before .before .before .before .before .before .loop .i))) ≡ c .numbers-sound .result
-numbers-said c = sym (c .numbers-sound .ensures ∙ ap soundNumbers (c .before .connection-at .ensures _ (here (c .before .before .before .before .before))))
+-- its connection
+connection-read : (c : tie.After-connection-at Inv-loop μ-loop)
+    → c .connection-at .result ≡ connectionIn (nth (records (c .before .before .before .before .before .before .before .before .args .bytes .now)) (c .before .before .before .before .before .loop .i))
+connection-read c = c .connection-at .ensures _ (here (c .before .before .before .before))
+
+-- what the test says of it
+numbers-said : (c : tie.After-numbers-within Inv-loop μ-loop)
+    → numbersWithin largestRecordK (connectionIn (nth (records (c .before .before .before .before .before .before .before .before .before .args .bytes .now)) (c .before .before .before .before .before .before .loop .i))) ≡ c .numbers-within .result
+numbers-said c = sym (c .numbers-within .ensures ∙ ap (numbersWithin largestRecordK) (connection-read (c .before)))
 
 returns-3 : tie.Need-returns-3 Inv-loop μ-loop
 returns-3 c =
@@ -99,8 +108,8 @@ returns-3 c =
     let h = e .before .before in
     let l = h .before .before .loop in
     let a = h .before .before .before .before .before .args in
-    sym (tested-fails (records (a .bytes .now)) (l .i) (l .least) (h .handle-at .result) (inside (h .before)) (l .inv .2) (handle-read h)
-    (numbers-said (c .before) ∙ not-true (c .before .numbers-sound .result) (c .if3 .taken)))
+    tested-fails (records (a .bytes .now)) (l .i) (l .least) (h .handle-at .result) (l .illegal) (inside (h .before)) (l .inv .2) (handle-read h)
+    (numbers-said (c .before) ∙ not-true (c .before .numbers-within .result) (c .if3 .taken))
 
 add-least : tie.Need-add-least Inv-loop μ-loop
 add-least c = omega arith
@@ -124,19 +133,28 @@ loop-again c =
     let a = s .before in (
       omega arith,
       cursor-next (a .args .bytes .now) (a .args .n) (a .pre) (small s) (l .i) (h .before .loop-test .taken) (l .cursor) (l .inv .1) (c .next2 .result) (c .next2 .ensures),
-      tested-more (records (a .args .bytes .now)) (l .i) (l .least) (h .handle-at .result) (inside (h .before)) (l .inv .2) (handle-read h) (e .before .if1 .left) (e .if2 .left)
-          (numbers-said (t .before) ∙ not-false (t .before .numbers-sound .result) (t .if3 .left)),
+      tested-more (records (a .args .bytes .now)) (l .i) (l .least) (h .handle-at .result) (l .illegal) (inside (h .before)) (l .inv .2) (handle-read h) (e .before .if1 .left) (e .if2 .left)
+          (numbers-said (t .before) ∙ not-false (t .before .numbers-within .result) (t .if3 .left)) _ (ap (λ (x : Connection). x .k) (connection-read (t .before .before))),
     )
 
 returns-4 : tie.Need-returns-4 Inv-loop μ-loop
+unfolding checked
 returns-4 c =
-    let l = c .before .loop in
-    let s = c .before .before .before in
+    let l = c .before .before .loop in
+    let s = c .before .before .before .before in
     let a = s .before in
-    sym (tested-all (records (a .args .bytes .now)) (l .i) (l .least) (omega (arith, connections-long (a .args .bytes .now) (a .args .n) (a .pre) (small s))) (l .inv .2))
+    tested-all (records (a .args .bytes .now)) (l .i) (l .least) (l .illegal) true (omega (arith, connections-long (a .args .bytes .now) (a .args .n) (a .pre) (small s))) (l .inv .2) (c .if4 .taken)
 
-pub records-sound-spec : {M : Type 1} → statement M
-records-sound-spec =
+returns-5 : tie.Need-returns-5 Inv-loop μ-loop
+unfolding checked
+returns-5 c =
+    let l = c .before .before .loop in
+    let s = c .before .before .before .before in
+    let a = s .before in
+    tested-all (records (a .args .bytes .now)) (l .i) (l .least) (l .illegal) false (omega (arith, connections-long (a .args .bytes .now) (a .args .n) (a .pre) (small s))) (l .inv .2) (c .if4 .left)
+
+pub check-records-spec : {M : Type 1} → statement M
+check-records-spec =
     tie.close
     (tie.spec
     Inv-loop
@@ -148,11 +166,12 @@ records-sound-spec =
     returns
     returns-2
     connection-at-requires
-    numbers-sound-requires
+    numbers-within-requires
     returns-3
     add-least
     next-requires-2
     add-i
     loop-less
     loop-again
-    returns-4)
+    returns-4
+    returns-5)
