@@ -7,29 +7,23 @@ use Rattle.rules.specs.Handles.{connection}
 use Rattle.rules.specs.Answers.{saved}
 use Rattle.rules.specs.Lent.{over}
 use Rattle.rules.specs.Image.{image}
-use Rattle.blocks.proofs.SoundLaws.{Sound}
-use Rattle.blocks.proofs.ScheduleLaws.{good-sound}
 use Rattle.history.specs.Calls.{ruled}
 use Rattle.history.specs.Runs.{Run, more, now, followed, System, By}
 use Rattle.history.specs.Demands.{SavesBack, Demand1, Demand2, Demand3}
 use Rattle.history.specs.Code.{Coded, CodeAsDemanded}
-use Rattle.history.proofs.Following.{now-after, result-after, now-good, coded-ruled}
+use Rattle.history.proofs.Following.{now-after, result-after, now-sound, coded-ruled}
 use Rattle.history.proofs.Taking.{takes-by, takes-coded}
 use Rattle.history.proofs.Refusing.{refusals}
 use Rattle.history.proofs.Meaning.{meanings}
 use Rattle.history.proofs.Counting.{counted-run, near-run}
 use Rattle.history.proofs.Lifetimes.{steady, lives, bounded}
 
--- What soundness means, after any run.
-soundly : (run : Run) → By ruled run → Sound (now run .connections)
-soundly run by = good-sound (now run) (now-good run by)
-
 demand3-ruled : Demand3 (By ruled)
 demand3-ruled =
     record {
-      counted = λ run x by live. counted-run (connection (now run) x) live (soundly run by .numbers x live);
-      near = λ run x by live. near-run (connection (now run) x) live (soundly run by .numbers x live);
-      apart = λ run x y b by. soundly run by .apart-ever b x y;
+      counted = λ run x by live. counted-run (connection (now run) x) live (now-sound run by .numbers x live);
+      near = λ run x by live. near-run (connection (now run) x) live (now-sound run by .numbers x live);
+      apart = λ run x y b by. now-sound run by .apart-ever b x y;
       bounded = bounded;
       steady = steady;
       lives = lives;
@@ -41,6 +35,7 @@ module _ (S T : System) (among : (run : Run) → S run → T run) where
   demand2-among d =
       record {
         intervals = λ run m x lo hi f c F A L s. d .intervals run m x lo hi f c F A L (among (more run m) s);
+        factors = λ run x s. d .factors run x (among run s);
         events = λ run x b s. d .events run x b (among run s);
         results = λ run m s. d .results run m (among (more run m) s);
         connections = λ run x s. d .connections run x (among run s);

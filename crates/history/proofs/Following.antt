@@ -3,7 +3,8 @@ use mathlib.Core.Path.{_≡_, ap, _∙_, subst⁻¹}
 use mathlib.Core.List.{List, [], _∷_}
 use Rattle.rules.specs.declared.Schedule.{Schedule}
 use Rattle.rules.specs.Good.{Good}
-use Rattle.blocks.proofs.ScheduleLaws.{fresh-is-good}
+use Rattle.blocks.proofs.SoundLaws.{Sound}
+use Rattle.blocks.proofs.ScheduleLaws.{fresh-is-good, good-sound}
 use Rattle.calls.proofs.CallLaws.{admits, drops, reports, call-good}
 use Rattle.calls.proofs.ReportsLaws.{report-all-good}
 use Rattle.images.proofs.ImageLaws.{load-good}
@@ -48,6 +49,10 @@ result-is run m b call p = b .1 ∙ ap (λ (c : Call). ruledCall (now run) c (m 
 
 pub now-good : (run : Run) → By ruled run → Good (now run)
 now-good run b = subst⁻¹ Good (now-after run b) (after-good (historyOf run))
+
+-- What soundness means, after any run.
+pub now-sound : (run : Run) → By ruled run → Sound (now run .connections)
+now-sound run b = good-sound (now run) (now-good run b)
 
 -- A part of a run is one.
 pub earlier-by : (step : StepFunction) (run : Run) (later : List Made) → By step (followed run later) → By step run

@@ -11,14 +11,13 @@ use Rattle.rules.specs.Handles.{connection, isLive}
 use Rattle.rules.specs.Report.{metered}
 use Rattle.rules.specs.Load.{load}
 use Rattle.calls.proofs.AdmitLaws.{admit-stored}
-use Rattle.blocks.proofs.ScheduleLaws.{good-sound}
 use Rattle.images.proofs.ImageLaws.{at-free}
 use Rattle.images.proofs.RoundTrip.{round-connection}
 use Rattle.history.specs.Calls.{Admit, Load, Result, ruledCall, ruled}
 use Rattle.history.specs.Runs.{Start, Fresh, startOf, Made, Run, begun as run-begun, more, now, followed, By}
 use Rattle.history.specs.Moments.{Begins, admitted, restored, Ends, drops, replaced as ends-replaced, Lasts, Unreported, Unmoved, Alive}
 use Rattle.history.specs.Demands.{Bounded, Steady, Lives}
-use Rattle.history.proofs.Following.{now-good, result-is, earlier-by}
+use Rattle.history.proofs.Following.{now-good, now-sound, result-is, earlier-by}
 use Rattle.history.proofs.Effects.{Quiet, Effect, kept, moved, begun, ended, replaced, effect}
 
 -- ---- what lasts
@@ -101,7 +100,7 @@ alive-stands run by x floor ceiling a =
 pub bounded : Bounded (By ruled)
 bounded run x floor ceiling by a =
     let w = alive-stands run by x floor ceiling a in
-    let n = good-sound (now run) (now-good run by) .numbers x (w .live) in
+    let n = now-sound run by .numbers x (w .live) in
     (omega arith, omega arith)
 
 -- ---- who is live

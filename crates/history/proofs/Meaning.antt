@@ -13,8 +13,9 @@ use Rattle.rules.specs.Answers.{Answer, Written, ok}
 use Rattle.rules.specs.Admit.{admitDone, admit}
 use Rattle.rules.specs.Image.{image}
 use Rattle.blocks.proofs.EndlessTime.{belongs-reserved}
+use Rattle.rules.specs.Subrates.{isFactor}
 use Rattle.rules.specs.Sound.{Numbers}
-use Rattle.blocks.proofs.ScheduleLaws.{good-sound}
+use Rattle.calls.proofs.FactorLaws.{factor-legal}
 use Rattle.calls.proofs.RangeLaws.{interval-longest, k-unique}
 use Rattle.calls.proofs.AdmitLaws.{Reached, admit-cases}
 use Rattle.calls.proofs.RoomLaws.{no-room-exactly, room-exactly}
@@ -22,8 +23,8 @@ use Rattle.images.proofs.SaveLaws.{save-whole}
 use Rattle.images.proofs.ImageLaws.{load-exactly, load-saves}
 use Rattle.history.specs.Calls.{Admit, Save, Load, Lent, Result, ruledCall, ruled}
 use Rattle.history.specs.Runs.{Run, now, By}
-use Rattle.history.specs.Demands.{Meant, IntervalsMeant, EventsMeant, ResultsGiven, ConnectionsGiven, TreeGiven, Reaches, RoomAsked, RoomExact, RestoreExact, SavesImage, SavesSame, Demand2}
-use Rattle.history.proofs.Following.{now-after, result-after, result-is, now-good}
+use Rattle.history.specs.Demands.{Meant, IntervalsMeant, FactorsMeant, EventsMeant, ResultsGiven, ConnectionsGiven, TreeGiven, Reaches, RoomAsked, RoomExact, RestoreExact, SavesImage, SavesSame, Demand2}
+use Rattle.history.proofs.Following.{now-after, result-after, result-is, now-good, now-sound}
 
 -- ---- intervals
 interval-meant : (s : Schedule) (x lo hi f c F A L : ℕ) → admit s x lo hi f c .answer ≡ ok F A L → Meant lo hi F
@@ -36,10 +37,11 @@ interval-meant s x lo hi f c F A L =
     let w = interval-longest lo hi (a .k) A f c (a .reached .range) (a .reached .given) in
     record {
       allowed = a .reached .range;
-      power = (a .k, a .placeable .deep, sym p);
+      legal = subst (λ (n : ℕ). isFactor n ≡ true) p (factor-legal (a .k) .1 (a .placeable .deep));
+      power = (a .k, sym p);
       notBelow = omega (arith, p, w .1);
       notAbove = omega (arith, p, w .2);
-      longest = λ k d l h. omega (arith, p, w .3 k d l h);
+      longest = λ k d l h. omega (arith, p, w .3 k (factor-legal k .0 d) l h);
     })
 
 intervals : IntervalsMeant (By ruled)
@@ -47,12 +49,15 @@ unfolding ruledCall
 intervals run m x lo hi f c F A L by p a =
     interval-meant (now run) x lo hi f c F A L (sym (ap (λ (t : Result). t .answer) (result-is run m by (Admit x lo hi f c) p)) ∙ a)
 
--- ---- events
+-- ---- factors and events
+factors : FactorsMeant (By ruled)
+factors run x by live = factor-legal (connection (now run) x .k) .1 (now-sound run by .numbers x live .deep)
+
 events : EventsMeant (By ruled)
 unfolding owns
 events run x b by live =
     let c = connection (now run) x in
-    let n : Numbers c = good-sound (now run) (now-good run by) .numbers x live in
+    let n : Numbers c = now-sound run by .numbers x live in
     let u = belongs-reserved c b (omega (arith, n .positive, n .floored)) in
     let o : owns c b ≡ belongs c b = ap (λ (v : Bool). v && belongs c b) live in
     (λ t. u .0 (sym o ∙ t), λ t. o ∙ u .1 t)
@@ -133,6 +138,7 @@ pub meanings : Demand2 (By ruled)
 meanings =
     record {
       intervals = intervals;
+      factors = factors;
       events = events;
       results = results;
       connections = connections;

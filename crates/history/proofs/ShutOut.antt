@@ -1,27 +1,31 @@
 -- The versions that are shut out, each by a computed history.
 use Prim.Native.Nat.{ℕ}
-use mathlib.Core.Path.{_≡_, refl, sym, ap, _∙_}
+use mathlib.Core.Path.{_≡_, refl, sym, ap, subst, _∙_}
 use mathlib.Core.Bool.{true, false≢true}
 use mathlib.Core.List.{List, [], _∷_}
 use native.Mathlib.Omega.{arith}
 use lib.ListN.{getD, replicate}
+use Rattle.rules.specs.declared.Schedule.{Schedule}
 use Rattle.rules.specs.declared.Connection.{Connection}
 use Rattle.rules.specs.declared.Refusal.the-variants.{HandleAbove63}
 use Rattle.rules.specs.Core.{isRange}
-use Rattle.rules.specs.Ownership.{handles, owns}
-use Rattle.rules.specs.Good.{fresh}
-use Rattle.rules.specs.Refusals.{number}
+use Rattle.rules.specs.Ownership.{handles, factor, owns}
+use Rattle.rules.specs.Subrates.{isFactor}
+use Rattle.rules.specs.Good.{fresh, withConnections, withConnection}
+use Rattle.rules.specs.Refusals.{number, decided}
 use Rattle.rules.specs.Answers.{ok}
 use Rattle.rules.specs.Handles.{connection}
-use Rattle.rules.specs.Admit.{kIn}
+use Rattle.rules.specs.Admit.{kIn, anchorFor}
 use Rattle.rules.specs.Image.{image}
+use Rattle.rules.specs.Load.{loadChecks, loadDone}
 use Rattle.blocks.proofs.ScheduleLaws.{nobody-owns, fresh-is-good}
+use Rattle.rules.proofs.Readings.{single as logger}
 use Rattle.images.proofs.ImageLaws.{image-bytes, at-free}
 use Rattle.history.specs.Calls.{Bytes, Call, Admit, Drop, Report, Reports, Owner, Save, Load, Lent, nothing, Request, ruledCall}
 use Rattle.history.specs.Runs.{Fresh, startOf, History, begin, next, after, Made, Run, begun, more, now, historyOf, StepFunction, By}
 use Rattle.history.specs.Moments.{Ends, admitted, drops, replaced}
-use Rattle.history.specs.Demands.{ResultsGiven, ConnectionsGiven, RoomExact, RestoreExact, Demand2, countFrom, Counted, ApartEver, Lives, Demand3}
-use Rattle.history.specs.Versions.{RefusesAll, anchorsZero, doesNothing, inventsAnswers, makesUpLength, endsAnother, startsAtZero, forgetsEstimate, neverGrows, losesBackups, refusesWithOne}
+use Rattle.history.specs.Demands.{IntervalsMeant, FactorsMeant, ResultsGiven, ConnectionsGiven, RoomExact, RestoreExact, Demand2, countFrom, Counted, ApartEver, Lives, Demand3}
+use Rattle.history.specs.Versions.{RefusesAll, anchorsZero, doesNothing, inventsAnswers, makesUpLength, endsAnother, startsAtZero, forgetsEstimate, neverGrows, losesBackups, admits512, restores512, refusesWithOne}
 
 -- ---- runs of a version
 -- What it leaves of a request,
@@ -268,3 +272,24 @@ loses-backups results =
 -- None of the four meets demand 2.
 pub nearly-right : (Demand2 (By startsAtZero) → ⊥) × (Demand2 (By forgetsEstimate) → ⊥) × (Demand2 (By neverGrows) → ⊥) × (Demand2 (By losesBackups) → ⊥)
 nearly-right = (λ d. starts-at-zero (d .connections), λ d. forgets-estimate (d .connections), λ d. never-grows (d .connections), λ d. loses-backups (d .results))
+
+-- ---- one that still admits F 512
+-- The interval 3,072 gets it, and the Core Specification allows no such factor.
+pub admits-512 : IntervalsMeant (By admits512) → ⊥
+unfolding ran ruledCall anchorFor
+admits-512 meant =
+    let h = next start (plain (Admit 0 6 3072 1 1)) in
+    let run = ran admits512 start in
+    false≢true (meant run (leaves admits512 run (plain (Admit 0 6 3072 1 1))) 0 6 3072 1 1 512 0 1 (ran-by admits512 h) refl refl .legal)
+
+-- ---- and one that still restores it
+-- The image of one logger of F 512 is taken, and the logger is live.
+abbrev slower : Schedule
+slower = withConnection fresh 0 (logger 9 0 5000)
+
+pub restores-512 : FactorsMeant (By restores512) → ⊥
+unfolding ran fresh withConnections image loadChecks loadDone decided
+restores-512 meant =
+    let h = next start (plain (Load (record { list = image slower; small = image-bytes slower }))) in
+    let e : connection (now (ran restores512 h)) 0 ≡ logger 9 0 5000 = refl in
+    false≢true (subst (λ (c : Connection). isFactor (factor c) ≡ true) e (meant (ran restores512 h) 0 (ran-by restores512 h) (ap (λ (c : Connection). c .live) e)))

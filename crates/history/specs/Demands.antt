@@ -12,7 +12,8 @@ use Rattle.rules.specs.declared.Connection.{Connection}
 use Rattle.rules.specs.declared.Refusal.{Refusal as Named}
 use Rattle.rules.specs.declared.Refusal.the-variants.{NoOpenAnchor}
 use Rattle.rules.specs.Core.{isRange, baseInterval, Reserved}
-use Rattle.rules.specs.Ownership.{handles, largestK, factor, subrating, owns}
+use Rattle.rules.specs.Ownership.{handles, factor, subrating, owns}
+use Rattle.rules.specs.Subrates.{isFactor}
 use Rattle.rules.specs.Sound.{sound}
 use Rattle.rules.specs.Good.{treeFor}
 use Rattle.rules.specs.Refusals.{number}
@@ -48,20 +49,25 @@ pub record Demand1 (S : System) : Type 0 where
   pub refusals : (run : Run) (m : Made) (n : ℕ) → S (more run m) → m .result .answer ≡ refused n → Refusal run m n
 
 -- ---- demand 2
--- "Intervals and subrated events mean what the Bluetooth Core Specification says": the bounds of an accepted range are intervals, in order; F base
--- intervals, the time from one subrated event to the next, last no less than the smallest and no more than the largest; and every 2^k, up to the
--- largest k, of which that holds is at most F;
+-- "Intervals and subrated events mean what the Bluetooth Core Specification says": the bounds of an accepted range are intervals, in order; F is a
+-- subrate factor; F base intervals, the time from one subrated event to the next, last no less than the smallest and no more than the largest; and
+-- every 2^k that is a subrate factor and of which that holds is at most F;
 pub record Meant (smallest largest F : ℕ) : Type 0 where
   pub allowed : isRange smallest largest ≡ true
-  pub power : (k : ℕ) × (k ≤ largestK) × (F ≡ 2 ^ k)
+  pub legal : isFactor F ≡ true
+  pub power : (k : ℕ) × (F ≡ 2 ^ k)
   pub notBelow : smallest ≤ F * baseInterval
   pub notAbove : F * baseInterval ≤ largest
-  pub longest : (k : ℕ) → k ≤ largestK → smallest ≤ 2 ^ k * baseInterval → 2 ^ k * baseInterval ≤ largest → 2 ^ k ≤ F
+  pub longest : (k : ℕ) → isFactor (2 ^ k) ≡ true → smallest ≤ 2 ^ k * baseInterval → 2 ^ k * baseInterval ≤ largest → 2 ^ k ≤ F
 
 abbrev pub IntervalsMeant : System → Type 0
 IntervalsMeant S =
     (run : Run) (m : Made) (x smallest largest floor ceiling F A L : ℕ) → S (more run m)
     → AdmissionOf (m .request .call) x smallest largest floor ceiling → m .result .answer ≡ ok F A L → Meant smallest largest F
+
+-- the factor of each live connection, admitted or restored, is a subrate factor;
+abbrev pub FactorsMeant : System → Type 0
+FactorsMeant S = (run : Run) (x : ℕ) → S run → isLive (now run) x ≡ true → isFactor (factor (connection (now run) x)) ≡ true
 
 -- and a block belongs to a connection exactly if it is reserved for it: one of its subrated events, or of the continuation events after one.
 abbrev pub EventsMeant : System → Type 0
@@ -145,6 +151,7 @@ SavesBack S =
 
 pub record Demand2 (S : System) : Type 0 where
   pub intervals : IntervalsMeant S
+  pub factors : FactorsMeant S
   pub events : EventsMeant S
   pub results : ResultsGiven S
   pub connections : ConnectionsGiven S

@@ -1,23 +1,24 @@
--- Versions that are shut out: the rule sheet's six, four that answer nearly as they should, and one that refuses everything with 1. Each is a
--- step function.
+-- Versions that are shut out: the rule sheet's six, four that answer nearly as they should, one that still admits F 512 and one that still restores it, and
+-- one that refuses everything with 1. Each is a step function.
 use Prim.Native.Nat.{ℕ, _+_, _%_, _^_}
 use mathlib.Core.Path.{_≡_}
 use mathlib.Core.Bool.{Bool, true, false, cond, _&&_}
-use mathlib.Core.List.{List, [], _∷_}
+use mathlib.Core.List.{List, [], _∷_, _++_}
 use lib.Dec.{eqb}
-use lib.ListN.{set, getD, length, replicate}
+use lib.ListN.{set, getD, length, replicate, take, drop}
 use Rattle.rules.specs.declared.Schedule.{Schedule}
 use Rattle.rules.specs.declared.Connection.{Connection}
 use Rattle.rules.specs.declared.Report.{Report as ReportOfList}
 use Rattle.rules.specs.declared.Refusal.the-variants.{HandleAbove63}
 use Rattle.rules.specs.Good.{withConnection}
-use Rattle.rules.specs.Refusals.{number}
+use Rattle.rules.specs.Refusals.{number, decided}
 use Rattle.rules.specs.Handles.{connection, isLive}
-use Rattle.rules.specs.Answers.{Answer, refused, ok, dropped, kept, grown, shrunk, tight, owner, idle, slots, saved, loaded, reported, message, wrote}
-use Rattle.rules.specs.Admit.{kFor, newConnection}
+use Rattle.rules.specs.Answers.{Answer, refusing, refused, ok, dropped, kept, grown, shrunk, tight, owner, idle, slots, saved, loaded, reported, message, wrote}
+use Rattle.rules.specs.Admit.{inRange, kFor, newConnection, anchorFor}
 use Rattle.rules.specs.Drop.{dropHandle}
 use Rattle.rules.specs.Report.{metered}
-use Rattle.history.specs.Calls.{Call, Admit, Drop, Report, Reports, Owner, Anchor, Save, Load, Request, Result, written, ruled}
+use Rattle.rules.specs.Load.{loadChecks, loadDone}
+use Rattle.history.specs.Calls.{Bytes, Call, Admit, Drop, Report, Reports, Owner, Anchor, Save, Load, Request, Result, beside, written, ruled}
 use Rattle.history.specs.Runs.{StepFunction}
 
 -- ---- the rule's result, but for one kind of call
@@ -66,7 +67,7 @@ onOwner f (Anchor x b) it = it
 onOwner f Save it = it
 onOwner f (Load bytes) it = it
 
-abbrev onImage : (Result → Result) → (Result → Result) → Call → Result → Result
+abbrev onImage : (Result → Result) → (Bytes → Result → Result) → Call → Result → Result
 onImage save load (Admit x lo hi floor ceiling) it = it
 onImage save load (Drop x) it = it
 onImage save load (Report x sample) it = it
@@ -74,7 +75,7 @@ onImage save load (Reports reports) it = it
 onImage save load (Owner b) it = it
 onImage save load (Anchor x b) it = it
 onImage save load Save it = save it
-onImage save load (Load bytes) it = load it
+onImage save load (Load bytes) it = load bytes it
 
 -- ---- and for a part of it
 abbrev accepted : Answer → Bool
@@ -170,7 +171,24 @@ abbrev blanked : Result → Result
 blanked it = written (it .lent) (it .schedule) (record { answer = it .answer; buffer = replicate (length (it .lent .buffer)) 0 })
 
 abbrev pub losesBackups : StepFunction
-losesBackups s r = onImage (λ it. cond (accepted (it .answer) && eqb (firstByte s % 2) 0) (blanked it) it) marking (r .call) (ruled s r)
+losesBackups s r = onImage (λ it. cond (accepted (it .answer) && eqb (firstByte s % 2) 0) (blanked it) it) (λ bytes. marking) (r .call) (ruled s r)
+
+-- ---- one that still admits F 512
+-- An accepted admission whose range has 6 × 512 in it gets k 9.
+abbrev pub admits512 : StepFunction
+admits512 s r =
+    onAdmit (λ x lo hi floor ceiling it.
+    cond (accepted (it .answer) && inRange lo hi 9)
+    (saying (ok 512 (anchorFor s 9 floor) floor) (leaving (withConnection s x (newConnection 9 (anchorFor s 9 floor) floor ceiling)) it)) it)
+    (r .call) (ruled s r)
+
+-- ---- and one that still restores it
+-- A load asks 9, 10, 11 and 12, as it did, and not 18.
+abbrev pub restores512 : StepFunction
+restores512 s r =
+    onImage (λ it. it)
+    (λ bytes it. beside (it .lent) (decided (take 2 (loadChecks (bytes .list)) ++ drop 3 (loadChecks (bytes .list))) (refusing s) (loadDone (bytes .list))))
+    (r .call) (ruled s r)
 
 -- ---- and one that refuses all, with a number that is not room's
 -- Everything is refused with 1.
