@@ -27,8 +27,8 @@ def image(connections):
 
 
 def factor(smallest, largest):
-    """Of all 6 × 2^k in a range of intervals, k to 9, the largest one's 2^k, or None."""
-    return max((2**k for k in range(10) if smallest <= 6 * 2**k <= largest), default=None)
+    """Of all 6 × 2^k in a range of intervals, k to 8, the largest one's 2^k, or None."""
+    return max((2**k for k in range(9) if smallest <= 6 * 2**k <= largest), default=None)
 
 
 def message(word, *numbers):

@@ -1,4 +1,4 @@
-//! Twenty slips, one of which can be planted at a time (`peer --fault N`).
+//! Twenty-three slips, one of which can be planted at a time (`peer --fault N`).
 //! A comparison that does not find each of them is too weak.
 
 #[derive(Clone, Copy, Debug, PartialEq, Eq)]
@@ -45,10 +45,16 @@ pub enum Fault {
     TrailingTaken,
     /// 20: writing a message checks 8 before 17.
     ShortBeforeForbidden,
+    /// 21: load checks 18 before 10.
+    FactorFirst,
+    /// 22: on load a k of 9 is not sound (10 in the place of 18).
+    NineUnsound,
+    /// 23: load checks 18 after 11.
+    FactorAfterOverlap,
 }
 
 /// The faults by number, 1 first.
-pub const FAULTS: [Fault; 20] = [
+pub const FAULTS: [Fault; 23] = [
     Fault::CountingOrder,
     Fault::TowardZero,
     Fault::FirstPeriodOnly,
@@ -69,9 +75,12 @@ pub const FAULTS: [Fault; 20] = [
     Fault::FailedEventHeld,
     Fault::TrailingTaken,
     Fault::ShortBeforeForbidden,
+    Fault::FactorFirst,
+    Fault::NineUnsound,
+    Fault::FactorAfterOverlap,
 ];
 
-/// The fault with this number, 1 to 20.
+/// The fault with this number, 1 to 23.
 pub fn by_number(number: usize) -> Option<Fault> {
     FAULTS.get(number.checked_sub(1)?).copied()
 }

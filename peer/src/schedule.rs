@@ -4,6 +4,8 @@ use crate::fault::Fault;
 
 /// The list has 512 blocks and repeats for ever.
 pub const BLOCKS: i64 = 512;
+/// The leaves of the tree are at this depth, one for each block.
+pub const DEPTH: i64 = 9;
 /// A block is 6 slots of 1.25 ms.
 pub const SLOTS: i64 = 6;
 /// A block is 7,500 µs.
@@ -16,8 +18,11 @@ pub const LEAST_INTERVAL: i64 = 6;
 pub const GREATEST_INTERVAL: i64 = 3_200;
 /// Handles are 0 to 63.
 pub const HANDLES: usize = 64;
+/// k in an admission and in a sound schedule is at most 8: the Core Specification limits the
+/// subrate factor to 500, and the largest power of two below that is 256.
+pub const LARGEST_K: i64 = 8;
 
-/// The number of a refusal, 1 to 15.
+/// The number of a refusal, 1 to 18.
 pub type Refusal = u32;
 
 /// For each of the 512 blocks: does it belong to someone?
@@ -35,8 +40,9 @@ pub struct Connection {
 }
 
 impl Connection {
-    /// F = 2^k. (k is at most 9 in a sound connection. An unsound one is looked
-    /// at only under fault 8; the bound keeps the shift in range for it.)
+    /// F = 2^k. (k is at most 8 in a sound connection, and 9 in one that is otherwise sound.
+    /// One with another k is looked at only under fault 8; the bound keeps the shift in range
+    /// for it.)
     pub fn factor(&self) -> i64 {
         1 << self.k.clamp(0, 32)
     }
@@ -46,9 +52,9 @@ impl Connection {
         (block - self.anchor).rem_euclid(self.factor()) < self.length
     }
 
-    /// 1 ≤ floor ≤ L ≤ ceiling ≤ F, k ≤ 9, A < F and estimate ≤ L × 7,500.
-    pub fn sound(&self) -> bool {
-        (0..=9).contains(&self.k)
+    /// 1 ≤ floor ≤ L ≤ ceiling ≤ F, A < F and estimate ≤ L × 7,500, where k is at most this one.
+    pub fn sound_to(&self, largest_k: i64) -> bool {
+        (0..=largest_k).contains(&self.k)
             && (0..self.factor()).contains(&self.anchor)
             && 1 <= self.floor
             && self.floor <= self.length
@@ -127,7 +133,7 @@ impl Schedule {
             };
             not_below && interval <= largest
         };
-        (0..=9).filter(in_range).max()
+        (0..=LARGEST_K).filter(in_range).max()
     }
 
     /// Admit: checks 1, 2, 4, 15, 5, 6. Answers F, A, L.
@@ -298,7 +304,7 @@ pub fn mirror(value: i64, k: i64) -> i64 {
 /// by 2^k is p mirrored, and its bit says whether one of them is taken.
 pub fn tree_of(taken: &Taken) -> [u8; 128] {
     let mut bytes = [0; 128];
-    for k in 0..=9 {
+    for k in 0..=DEPTH {
         let factor = 1 << k;
         for p in 0..factor {
             if !class_free(taken, mirror(p, k), factor) {
@@ -313,6 +319,7 @@ pub fn tree_of(taken: &Taken) -> [u8; 128] {
 #[cfg(test)]
 mod tests {
     use super::*;
+    use crate::messages::LARGEST_FACTOR;
 
     fn fresh() -> Schedule {
         Schedule::fresh(Fault::None)
@@ -331,12 +338,19 @@ mod tests {
     #[test]
     fn intervals() {
         for (interval, factor) in
-            [(6, 1), (11, 1), (12, 2), (3_071, 256), (3_072, 512), (3_200, 512)]
+            [(6, 1), (11, 1), (12, 2), (3_071, 256), (3_072, 256), (3_200, 256)]
         {
             assert_eq!(fresh().admit(0, 6, interval, 1, 1), Ok((factor, 0, 1)));
         }
         assert_eq!(fresh().admit(0, 6, 5, 1, 1), Err(4));
         assert_eq!(fresh().admit(0, 6, 3_201, 1, 1), Err(4));
+    }
+
+    #[test]
+    fn the_largest_k() {
+        let legal = (0..=DEPTH).filter(|k| 1 << k <= LARGEST_FACTOR);
+        assert_eq!(legal.max(), Some(LARGEST_K));
+        assert_eq!(1 << DEPTH, BLOCKS);
     }
 
     #[test]
@@ -346,8 +360,10 @@ mod tests {
             (12, 12, 2),
             (13, 24, 4),
             (1_536, 3_071, 256),
-            (6, 3_200, 512),
-            (3_072, 3_072, 512),
+            (1_536, 1_536, 256),
+            (1_536, 3_200, 256),
+            (6, 3_072, 256),
+            (6, 3_200, 256),
         ] {
             assert_eq!(fresh().admit(0, smallest, largest, 1, factor), Ok((factor, 0, 1)));
             assert_eq!(fresh().admit(0, smallest, largest, 1, factor + 1), Err(5));
@@ -356,6 +372,10 @@ mod tests {
             (7, 11, 15),
             (13, 23, 15),
             (1_537, 3_071, 15),
+            (1_537, 3_072, 15),
+            (1_537, 3_200, 15),
+            (3_072, 3_072, 15),
+            (3_072, 3_200, 15),
             (3_073, 3_200, 15),
             (3_200, 3_200, 15),
             (5, 6, 4),

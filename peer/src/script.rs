@@ -314,6 +314,32 @@ mod tests {
     }
 
     #[test]
+    fn the_largest_factor() {
+        for (line, answer) in [
+            ("admit 0 3200 1 1", "ok 256 0 1"),
+            ("admit 0 3072 1 1", "ok 256 0 1"),
+            ("admit 0 1536 3200 1 1", "ok 256 0 1"),
+            ("admit 0 1537 3200 1 1", "no 15"),
+            ("admit 0 3072 3072 1 1", "no 15"),
+            ("admit 0 3072 1 257", "no 5"),
+        ] {
+            assert_eq!(right(&format!("{line}\n")), format!("{answer}\n"), "{line}");
+        }
+        // Handle 0 alone, with block 0 of F 512; with A 512; with a byte more.
+        let image = |anchor: &str| {
+            let record = format!("0e0002000009{anchor}01000100010088130000");
+            let tree = |node| ["00", "01"][[8, 16, 32, 64, 128, 256, 512].contains(&node) as usize];
+            let bytes: String = (1..128).map(|byte| tree(8 * byte)).collect();
+            format!("020001000100{record}8000030016{bytes}")
+        };
+        let (nine, beyond) = (image("0000"), image("0002"));
+        assert_eq!(
+            right(&format!("load {nine}\nload {beyond}\nload {nine}00\nstate\n")),
+            "no 18\nno 10\nno 9\nend\n"
+        );
+    }
+
+    #[test]
     fn lists_of_reports() {
         assert_eq!(
             right("admit 0 48 1 4\nreports 2 0 7500 9 0 0 7500\nreports 4 0 7500 9 0 0 7500\n"),

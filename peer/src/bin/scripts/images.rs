@@ -2,8 +2,8 @@
 
 use crate::random::Random;
 use peer::fault::Fault;
-use peer::image::{connection_payload, image};
-use peer::schedule::{taken_by, tree_of, Connection, Schedule, BLOCK_US};
+use peer::image::{connection_payload, image, ILLEGAL_K};
+use peer::schedule::{taken_by, tree_of, Connection, Schedule, BLOCKS, BLOCK_US, LARGEST_K};
 
 /// A sound schedule of up to `most` connections, many of which no row of calls
 /// would have left: any anchors, runs round the end, any estimates.
@@ -11,12 +11,12 @@ pub fn random_schedule(random: &mut Random, most: usize) -> Schedule {
     let mut schedule = Schedule::fresh(Fault::None);
     let mut handles: Vec<usize> = (0..64).collect();
     random.shuffle(&mut handles);
-    let lowest = random.pick(&[1, 2, 3, 4, 5, 6, 7, 9]);
+    let lowest = random.pick(&[1, 2, 3, 4, 5, 6, 7, 8]);
     let longest = random.pick(&[1, 2, 4, 16, 64, 256]);
     let mut tries = 0;
     while schedule.live().count() < most && tries < 4 * most + 20 {
         tries += 1;
-        let k = random.between(lowest, 9);
+        let k = random.between(lowest, LARGEST_K);
         let factor = 1i64 << k;
         let length = random.between(1, longest.min(factor));
         // Some so late that the run goes round the end of the cycle.
@@ -57,32 +57,30 @@ fn with_bounds(random: &mut Random, k: i64, anchor: i64, length: i64) -> Connect
 pub fn extreme_schedule(random: &mut Random, which: usize) -> Schedule {
     let mut schedule = Schedule::fresh(Fault::None);
     match which % 6 {
-        // 64 connections that leave no block free, each with a run of 8.
+        // 64 connections of F 256 that leave no block free, each with a run of 4.
         0 => {
-            let first = random.between(0, 511);
-            for handle in 0..64 {
-                let anchor = (first + 8 * handle as i64) % 512;
-                schedule.connections[handle] = Some(with_bounds(random, 9, anchor, 8));
+            for (handle, connection) in side_by_side(random, LARGEST_K) {
+                schedule.connections[handle as usize] = Some(connection);
             }
         }
         // None.
         1 => {}
-        // F 512 with few long runs, one of them round the end.
+        // F 256 with few long runs, one of them round the end.
         2 => {
-            let first = random.between(1, 511);
+            let first = random.between(1, 255);
             let mut from = 0;
             let mut handle = random.place(20);
-            while from < 512 && handle < 64 {
-                let length = random.between(1, 512 - from);
-                let anchor = (first + from) % 512;
-                schedule.connections[handle] = Some(with_bounds(random, 9, anchor, length));
+            while from < 256 && handle < 64 {
+                let length = random.between(1, 256 - from);
+                let anchor = (first + from) % 256;
+                schedule.connections[handle] = Some(with_bounds(random, 8, anchor, length));
                 from += length + random.between(0, 3);
                 handle += 1 + random.place(9);
             }
         }
         // One connection that owns every block, at any factor and anchor.
         3 => {
-            let k = random.between(0, 9);
+            let k = random.between(0, LARGEST_K);
             let factor = 1i64 << k;
             let anchor = random.between(0, factor - 1);
             let handle = random.pick(&[0, 1, 31, 62, 63]);
@@ -105,10 +103,10 @@ pub fn extreme_schedule(random: &mut Random, which: usize) -> Schedule {
                 schedule.connections[handle] = Some(with_bounds(random, 6, anchor, 1));
             }
         }
-        // One of each factor 2, 4, .. 512, each in the half that is left.
+        // One of each factor 2, 4, .. 256, each in the half that is left.
         _ => {
             let mut from = 0;
-            for k in 1..=9 {
+            for k in 1..=LARGEST_K {
                 let connection = with_bounds(random, k, from, 1);
                 schedule.connections[7 * k as usize] = Some(connection);
                 from += 1i64 << (k - 1);
@@ -116,6 +114,19 @@ pub fn extreme_schedule(random: &mut Random, which: usize) -> Schedule {
         }
     }
     schedule
+}
+
+/// 64 connections with this k, each with a 64th of the cycle, by rising handle.
+fn side_by_side(random: &mut Random, k: i64) -> Vec<(u8, Connection)> {
+    let factor = 1i64 << k;
+    let length = factor / 64;
+    let first = random.between(0, factor - 1);
+    (0..64)
+        .map(|handle| {
+            let anchor = (first + length * i64::from(handle)) % factor;
+            (handle, with_bounds(random, k, anchor, length))
+        })
+        .collect()
 }
 
 /// A record in parts, so that its length can be made to lie.
@@ -152,7 +163,7 @@ fn records(connections: &[(u8, Connection)]) -> Vec<Record> {
 }
 
 /// How many kinds of damage there are.
-pub const DAMAGES: usize = 66;
+pub const DAMAGES: usize = 78;
 
 /// An image with one thing wrong (some with two, to see which check is first),
 /// and the refusal that it must get.
@@ -186,8 +197,8 @@ pub fn damaged(random: &mut Random, which: usize) -> (Vec<u8>, u32) {
             }
             // A block of a late period only.
             2 => {
-                second.anchor = (second.anchor + 512 - second.factor()) % 512;
-                second.k = 9;
+                second.anchor = (second.anchor + 256 - second.factor()) % 256;
+                second.k = 8;
                 second.length = 1;
             }
             // The whole list.
@@ -200,9 +211,7 @@ pub fn damaged(random: &mut Random, which: usize) -> (Vec<u8>, u32) {
         second.floor = 1;
         second.ceiling = second.length;
         second.estimate = second.estimate.min(second.length * BLOCK_US);
-        let free = (0..64u8).find(|handle| two.iter().all(|(taken, _)| taken != handle));
-        two.push((free.unwrap_or(63), second));
-        two.sort_by_key(|(handle, _)| *handle);
+        add(&mut two, second);
         let mut records = records(&two);
         if which == 57 {
             // 11 before 12: the tree is wrong too.
@@ -210,9 +219,18 @@ pub fn damaged(random: &mut Random, which: usize) -> (Vec<u8>, u32) {
             records[last].payload[random.place(128)] ^= 1 << random.place(8);
         }
         (join(&records), 11)
-    } else {
+    } else if which < 66 {
         (bad_tree(random, which - 58, &good), 12)
+    } else {
+        with_a_nine(random, which - 66, good)
     }
+}
+
+/// One connection more, under the lowest handle that is free.
+fn add(connections: &mut Vec<(u8, Connection)>, connection: Connection) {
+    let free = (0..64u8).find(|handle| connections.iter().all(|(taken, _)| taken != handle));
+    connections.push((free.unwrap_or(63), connection));
+    connections.sort_by_key(|(handle, _)| *handle);
 }
 
 fn bad_framing(random: &mut Random, which: usize, good: &[(u8, Connection)]) -> Vec<u8> {
@@ -325,7 +343,7 @@ fn bad_numbers(random: &mut Random, which: usize, good: Vec<(u8, Connection)>) -
         9 => c.floor = length + 1,
         10 => c.ceiling = length - 1,
         11 => c.ceiling = factor + 1,
-        12 => c.ceiling = random.pick(&[1_024, 65_535]),
+        12 => c.ceiling = random.pick(&[512, 1_024, 65_535]),
         13 => c.estimate = length * BLOCK_US + 1,
         14 => c.estimate = 4_294_967_295,
         15 => {
@@ -405,6 +423,139 @@ fn bad_tree(random: &mut Random, which: usize, good: &[(u8, Connection)]) -> Vec
     join(&r)
 }
 
+/// The connection with a k of 9, in one of its periods: its blocks were its own before.
+fn nine_of(random: &mut Random, c: &Connection) -> Connection {
+    let period = random.between(0, BLOCKS / c.factor() - 1);
+    let ceiling = random.pick(&[c.ceiling, 257, 512]);
+    Connection { k: ILLEGAL_K, anchor: c.anchor + period * c.factor(), ceiling, ..c.clone() }
+}
+
+/// The connection with one of its numbers not sound.
+fn unsound_of(random: &mut Random, c: &Connection) -> Connection {
+    let c = c.clone();
+    match random.between(0, 5) {
+        0 => Connection { k: 10, ..c },
+        1 => Connection { anchor: c.anchor + c.factor(), ..c },
+        2 => Connection { length: c.ceiling + 1, ..c },
+        3 => Connection { floor: 0, ..c },
+        4 => Connection { ceiling: c.factor() + 1, ..c },
+        _ => Connection { estimate: c.length * BLOCK_US + 1, ..c },
+    }
+}
+
+/// Connections of which every one is sound or has a k of 9, and one has.
+fn house_with_a_nine(random: &mut Random) -> Vec<(u8, Connection)> {
+    match random.between(0, 2) {
+        // What F 512 had at its ends: no block free, each with a run of 8; one that owns
+        // every block.
+        0 => side_by_side(random, ILLEGAL_K),
+        1 => {
+            let anchor = random.between(0, 511);
+            vec![(random.pick(&[0, 31, 63]), with_bounds(random, ILLEGAL_K, anchor, 512))]
+        }
+        // One of 64: the first, the last or another.
+        _ => {
+            let mut all = side_by_side(random, 6);
+            let any = random.place(64);
+            let at = random.pick(&[0, 63, 63, any]);
+            all[at].1 = nine_of(random, &all[at].1);
+            all
+        }
+    }
+}
+
+/// An image with a k of 9, the tree right unless it is said, and what it must get: 18 where every
+/// record is otherwise sound and the handles rise, whatever 11 and 12 would say.
+fn with_a_nine(random: &mut Random, which: usize, good: Vec<(u8, Connection)>) -> (Vec<u8>, u32) {
+    let n = good.len();
+    let mut all = good;
+    let at = random.place(n);
+    let (handle, before) = all[at].clone();
+    all[at].1 = nine_of(random, &before);
+    let nine = &mut all[at].1;
+    let refusal = match which {
+        // One, several, a whole house.
+        0 => 18,
+        1 => {
+            for other in (0..n).filter(|&other| other != at) {
+                if other == (at + 1) % n || random.chance(50) {
+                    all[other].1 = nine_of(random, &all[other].1);
+                }
+            }
+            18
+        }
+        2 => {
+            all = house_with_a_nine(random);
+            18
+        }
+        // 18 before 11: with the connection that it was, with itself, or others share.
+        3 => {
+            let other = all[(at + 1) % n].1.clone();
+            let second = random.pick(&[before, all[at].1.clone(), other]);
+            add(&mut all, second);
+            18
+        }
+        // 18 before 12: a bit, or the tree as it was before.
+        4 => {
+            let mut r = records(&all);
+            if random.chance(50) {
+                r[n + 1].payload[random.place(128)] ^= 1 << random.place(8);
+            } else {
+                all[at] = (handle, before);
+                r[n + 1] = records(&all)[n + 1].clone();
+            }
+            return (join(&r), 18);
+        }
+        // 10 before 18: one before it that is not sound, and one after it.
+        5 | 6 => {
+            let later = 1 + random.place(n - 1);
+            let earlier = random.place(later);
+            let (nine, other) = if which == 5 { (later, earlier) } else { (earlier, later) };
+            all[at] = (handle, before);
+            all[nine].1 = nine_of(random, &all[nine].1);
+            all[other].1 = unsound_of(random, &all[other].1);
+            10
+        }
+        // It is not sound itself, by the bounds of F 512.
+        7 => {
+            nine.anchor = random.pick(&[512, nine.anchor + 512, 65_535]);
+            10
+        }
+        8 => {
+            nine.ceiling = random.pick(&[513, 513, 1_024]);
+            10
+        }
+        // Handles that fall, or are equal.
+        9 => {
+            let first = random.place(n - 1);
+            match random.between(0, 2) {
+                0 => all.swap(first, first + 1),
+                1 => (all[first].0, all[first + 1].0) = (all[first + 1].0, all[first].0),
+                _ => all[first].0 = all[first + 1].0,
+            }
+            10
+        }
+        // A k of 10, sound by the bounds of F 1,024, alone or beside a k of 9.
+        10 => {
+            let ten = if random.chance(50) { at } else { (at + 1) % n };
+            let c = &mut all[ten].1;
+            c.k = 10;
+            c.anchor += random.pick(&[0, 512]);
+            c.ceiling = random.pick(&[c.ceiling, 1_024]);
+            10
+        }
+        // 9 before 18: cut, or with bytes left over.
+        _ => {
+            let mut bytes = join(&records(&all));
+            let any = random.place(bytes.len());
+            let size = random.pick(&[any, bytes.len() - 1, bytes.len() + 1]);
+            bytes.resize(size, 0);
+            return (bytes, 9);
+        }
+    };
+    (join(&records(&all)), refusal)
+}
+
 /// A good image: of a random schedule, or of an extreme one.
 pub fn good(random: &mut Random, most: usize) -> Vec<u8> {
     let schedule = if random.chance(25) {
@@ -428,6 +579,21 @@ mod tests {
                 let (bytes, refusal) = damaged(&mut Random::new(round, which as u64), which);
                 let answer = load(&bytes, Fault::None).err();
                 assert_eq!(answer, Some(refusal), "damage {which}, round {round}");
+            }
+        }
+    }
+
+    #[test]
+    fn every_k_of_9_gets_its_refusal() {
+        for round in 0..400 {
+            for which in 66..DAMAGES {
+                let (bytes, refusal) = damaged(&mut Random::new(round, which as u64), which);
+                let answer = load(&bytes, Fault::None).err();
+                assert_eq!(answer, Some(refusal), "damage {which}, round {round}");
+                // Only where blocks are shared does it count whether 18 is before 11.
+                let after = load(&bytes, Fault::FactorAfterOverlap).err();
+                let expected = if which == 69 { 11 } else { refusal };
+                assert_eq!(after, Some(expected), "damage {which}, round {round}");
             }
         }
     }

@@ -103,7 +103,7 @@ fn there_and_back(sheet: &mut Sheet, messages: &[Message]) {
 
 /// The cases that the rule sheet itself names, and such of the requests, each on a fresh schedule.
 #[rustfmt::skip]
-const NAMED: [&[&str]; 9] = [
+const NAMED: [&[&str]; 10] = [
     &["admit 0 48 1 4", "admit 1 48 1 1", "report 0 7500", "owner 9", "owner 7", "anchor 1 6",
         "admit 2 6 1 1", "drop 5"],
     &["admit 0 48 1 1", "admit 1 48 1 1", "admit 2 48 1 1", "admit 3 48 1 1", "admit 4 12 1 1",
@@ -121,6 +121,8 @@ const NAMED: [&[&str]; 9] = [
         "admit 1 6 48 1 1", "drop 1", "admit 1 48 1 1"],
     &["message 7d200a0100f401000000000a00", "request 15 1 8 8 0 1 600", "change 15 0 1 8 0 1 600",
         "change 14 1 65535 0 0 0 0", "default 2 1 500 1 0 10", "default 2 1 500 0 0 10"],
+    &["admit 0 3200 1 1", "drop 0", "admit 0 1536 3200 1 1", "drop 0", "admit 0 1537 3200 1 1",
+        "admit 0 3072 3072 1 1", "admit 0 3072 1 257", "admit 0 3072 1 256"],
 ];
 
 /// (b) The house is filled until there is no room, thinned, and filled again.
@@ -169,7 +171,7 @@ fn dense(sheet: &mut Sheet, turn: usize) {
 fn fill(sheet: &mut Sheet) {
     // Factors 2^low to 2^high, and the share of a cycle that a floor may take.
     let styles =
-        [(3, 9, 25), (2, 5, 30), (5, 9, 40), (7, 9, 5), (9, 9, 60), (8, 9, 12), (4, 4, 20)];
+        [(3, 8, 25), (2, 5, 30), (5, 8, 40), (6, 8, 5), (8, 8, 60), (7, 8, 12), (4, 4, 20)];
     let (low, high, share) = sheet.random.pick(&styles);
     let enough = sheet.random.between(1, 4);
     let mut refused = 0;
@@ -185,7 +187,7 @@ fn fill(sheet: &mut Sheet) {
     }
     // The last gaps are small ones.
     for _ in 0..sheet.random.between(0, 12) {
-        let line = lines::crowd(&mut sheet.random, &sheet.session.schedule, 5, 9, 1);
+        let line = lines::crowd(&mut sheet.random, &sheet.session.schedule, 5, 8, 1);
         sheet.say(line);
     }
     if let Some(handle) = lines::idle_handle(&mut sheet.random, &sheet.session.schedule) {

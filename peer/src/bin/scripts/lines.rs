@@ -6,7 +6,8 @@ use crate::random::Random;
 use crate::ranges;
 use peer::image::image;
 use peer::reports::Report;
-use peer::schedule::{Connection, Schedule, BLOCK_US, GUARD_US, LEAST_INTERVAL, SLOTS};
+use peer::schedule::{Connection, Schedule, BLOCK_US, GREATEST_INTERVAL, GUARD_US};
+use peer::schedule::{LARGEST_K, LEAST_INTERVAL, SLOTS};
 
 /// Numbers at which a block counter, a sample or a handle may go wrong.
 const EDGES: [i64; 16] = [
@@ -124,7 +125,7 @@ pub fn admission(
 
 /// The k of one interval, 0 if it is below 6.
 pub fn k_of(interval: i64) -> i64 {
-    (0..9).take_while(|k| SLOTS << (k + 1) <= interval).count() as i64
+    (0..LARGEST_K).take_while(|k| SLOTS << (k + 1) <= interval).count() as i64
 }
 
 /// Mostly 6; otherwise up to this interval's 6 × 2^k, and now and then above it.
@@ -141,13 +142,14 @@ fn smallest_for(random: &mut Random, largest: i64) -> i64 {
 /// Any interval with this k.
 fn interval_of(random: &mut Random, k: i64) -> i64 {
     let low = SLOTS << k;
-    random.between(low, (2 * low - 1).min(3_200))
+    let high = if k == LARGEST_K { GREATEST_INTERVAL } else { 2 * low - 1 };
+    random.between(low, high)
 }
 
 /// A logger as one would meet it: a long interval, a small floor and ceiling.
 pub fn join(random: &mut Random, schedule: &Schedule) -> String {
     let handle = new_handle(random, schedule);
-    let k = random.pick(&[1, 2, 3, 3, 4, 4, 5, 5, 5, 6, 6, 6, 7, 7, 7, 8, 8, 8, 9, 9, 9]);
+    let k = random.pick(&[1, 2, 3, 3, 4, 4, 5, 5, 5, 6, 6, 6, 7, 7, 7, 8, 8, 8, 8, 8, 8]);
     let interval = match random.between(0, 9) {
         0 => random.pick(&[6, 12, 24, 48, 80, 160, 400, 800, 1_600, 3_072, 3_200]),
         1 => random.between(6, 3_200),
@@ -354,7 +356,7 @@ pub fn show(random: &mut Random, schedule: &Schedule) -> String {
 pub fn any(random: &mut Random, schedule: &Schedule) -> String {
     match random.between(0, 22) {
         0 | 1 => join(random, schedule),
-        2 | 3 => crowd(random, schedule, 3, 9, 15),
+        2 | 3 => crowd(random, schedule, 3, 8, 15),
         4 => edge_admission(random, schedule),
         5..=10 => report(random, schedule),
         11 => leave(random, schedule),

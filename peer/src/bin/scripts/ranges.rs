@@ -1,7 +1,7 @@
 //! Ranges of intervals, smallest and largest, for admissions.
 
 use crate::random::Random;
-use peer::schedule::{GREATEST_INTERVAL, LEAST_INTERVAL, SLOTS};
+use peer::schedule::{GREATEST_INTERVAL, LARGEST_K, LEAST_INTERVAL, SLOTS};
 
 /// 6 × 2^k, or beside it.
 fn near(random: &mut Random, k: i64) -> i64 {
@@ -27,16 +27,17 @@ fn above(random: &mut Random) -> i64 {
 pub const RANGES: usize = 10;
 
 pub fn of_kind(random: &mut Random, which: usize) -> (i64, i64) {
-    let k = random.between(0, 9);
-    // The next interval above 6 × 2^k, and the last before the next of its kind.
-    let next = (SLOTS << k) + 1;
-    let last = ((SLOTS << (k + 1)) - 1).min(GREATEST_INTERVAL);
+    // 6 × 2^9 is an interval too, of which there is no factor.
+    let k = random.between(0, LARGEST_K + 1);
+    // The next interval above 6 × 2^k, and the last before the next that has a factor.
+    let next = (SLOTS << k.min(LARGEST_K)) + 1;
+    let last = if k < LARGEST_K { (SLOTS << (k + 1)) - 1 } else { GREATEST_INTERVAL };
     match which % RANGES {
         // Both ends at or beside one 6 × 2^k.
         0 => (near(random, k), near(random, k)),
         // At or beside two of them.
         1 => {
-            let higher = random.between(k, 9);
+            let higher = random.between(k, LARGEST_K + 1);
             (near(random, k), near(random, higher))
         }
         // All that is between two of them, or above the last.
