@@ -81,7 +81,7 @@ enum { LEAST_INTERVAL = 6 };
 static int k_of(uint32_t slots) {
     if (slots < LEAST_INTERVAL || slots > 3200) return -1;
     int k = 0;
-    while (k < 9 && 6u << (k + 1) <= slots) k++;
+    while (k < 8 && 6u << (k + 1) <= slots) k++;
     return k;
 }
 
@@ -97,7 +97,7 @@ static int first_by_blocks(const uint8_t *tree, uint32_t k, uint32_t floor) {
 }
 
 static int first_by_stretches(const uint8_t *tree, uint32_t k, uint32_t floor) {
-    uint16_t anchors[512], open[512];
+    uint16_t anchors[256], open[256];
     uint32_t f = 1u << k;
     anchors[0] = 0;
     for (uint32_t p = 0; p < f / 2; p++) {
@@ -273,19 +273,22 @@ static struct connection connection_at(const uint8_t *at) {
     return (struct connection){true, at[5], number(at + 6, 2), number(at + 8, 2), number(at + 10, 2), number(at + 12, 2), number(at + 14, 4)};
 }
 
-static bool numbers_sound(struct connection c) {
+static bool numbers_within(struct connection c) {
     if (c.k > 9) return false;
     uint32_t f = 1u << c.k;
     return c.anchor < f && c.floor >= 1 && c.floor <= c.length && c.length <= c.ceiling && c.ceiling <= f && c.estimate <= c.length * 7500u;
 }
 
-static bool records_sound(const uint8_t *bytes, uint32_t n) {
+static int check_records(const uint8_t *bytes, uint32_t n) {
     int least = 0;
+    bool illegal = false;
     for (const uint8_t *at = bytes + 6; n > 0; n--, at += 18) {
-        if (at[4] > 63 || at[4] < least || !numbers_sound(connection_at(at))) return false;
+        struct connection c = connection_at(at);
+        if (at[4] > 63 || at[4] < least || !numbers_within(c)) return 10;
+        illegal |= c.k > 8;
         least = at[4] + 1;
     }
-    return true;
+    return illegal ? 18 : 0;
 }
 
 static bool run_free(const uint8_t *tree, struct connection c) {
@@ -308,7 +311,8 @@ static bool restore(struct schedule *s, const uint8_t *bytes, uint32_t n) {
 __attribute__((noinline)) static int load(struct schedule *s, const uint8_t *bytes, size_t size, uint32_t *count) {
     struct schedule new;
     if (!framed(bytes, bytes + size, count)) return 9;
-    if (!records_sound(bytes, *count)) return 10;
+    int no = check_records(bytes, *count);
+    if (no != 0) return no;
     if (!restore(&new, bytes, *count)) return 11;
     if (memcmp(bytes + size - 128, new.tree, 128) != 0) return 12;
     *s = new;

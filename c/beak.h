@@ -5,7 +5,8 @@
  * Every number and every byte that a call is given is answered by the rule sheet, those of a message by what the Core Specification allows.
  * What the caller must keep to, as nothing checks it:
  *  - this header and the archive are of one release: a call may take other numbers in another, and a linker does not look;
- *  - a struct beak is all zeros, or what beak_fresh gave, or what a call left, or a copy of such a one: nobody else writes its bytes;
+ *  - a struct beak is all zeros, or what beak_fresh gave, or what a call of this release left, or a copy of such a one: nobody else writes its bytes, and
+ *    over an update it goes as an image, saved before and loaded after;
  *  - one call at a time on a struct beak: no other thread reads or writes it meanwhile;
  *  - as long as a call runs, its image, reports or message can be read and its buffer or answers written, and none overlaps another or the schedule;
  *  - to an export itself the pointer of what is lent is not null, even for nothing: the functions around the exports see to that.
@@ -120,8 +121,8 @@ static inline void beak_start(struct beak *s) {
     *s = beak_fresh();
 }
 
-/* Admit a connection with a smallest and a largest interval in slots: PLACED, by the largest 6 * 2^k that is not above the largest and not below the
- * smallest. Refused, in this order: 1 handle above 63, 2 handle live, 4 either bound outside 6 to 3,200 or smallest above largest, 15 no such interval
+/* Admit a connection with a smallest and a largest interval in slots: PLACED, by the largest 6 * 2^k, k to 8, that is not above the largest and not below
+ * the smallest. Refused, in this order: 1 handle above 63, 2 handle live, 4 either bound outside 6 to 3,200 or smallest above largest, 15 no such interval
  * in the range, 5 floor or ceiling wrong, 6 no open anchor. */
 static inline struct beak_said beak_admit(struct beak *s, uint32_t handle, uint32_t smallest, uint32_t largest, uint32_t floor, uint32_t ceiling) {
     struct beak_called r = beak_admitted(*s, handle, smallest, largest, floor, ceiling);
@@ -164,7 +165,8 @@ static inline struct beak_said beak_entry(uint32_t entry) {
     return r;
 }
 
-/* Load an image in place of the schedule: LOADED. Refused: 9 records wrong, 10 numbers not sound, 11 a block owned twice, 12 tree bytes wrong. */
+/* Load an image in place of the schedule: LOADED. Refused, in this order: 9 records wrong, 10 numbers not sound, 18 a factor of 512 and everything
+ * else of its records sound, 11 a block owned twice, 12 tree bytes wrong. A house whose image gets 18 is joined afresh: start anew and admit its loggers again. */
 static inline struct beak_said beak_load(struct beak *s, const uint8_t *bytes, size_t size) {
     const uint8_t none = 0;
     struct beak_called r = beak_loaded(*s, size != 0 ? bytes : &none, size);

@@ -72,6 +72,10 @@ static void save_and_load(void) {
     told("load no bytes", beak_load(&other, NULL, 0), BEAK_REFUSED, 9, 0, 0);
     told("load", beak_load(&other, image, saved.first), BEAK_LOADED, 2, 0, 0);
     expect(memcmp(&house, &other, sizeof house) == 0, "what was saved and loaded is the same, byte by byte");
+
+    image[11] = 9; /* k of the first connection */
+    told("load with a k of 9", beak_load(&other, image, saved.first), BEAK_REFUSED, 18, 0, 0);
+    expect(memcmp(&house, &other, sizeof house) == 0, "a refused load leaves the schedule as it was");
 }
 
 /* Of three reports the second is of a handle that is not live, and the third of the same as the first; a fourth entry is left over. */
@@ -92,17 +96,19 @@ static void reports_at_once(void) {
     told("entry 3            no 3", beak_entry(answers[1]), BEAK_REFUSED, 3, 0, 0);
     told("entry 65538        kept 2", beak_entry(answers[2]), BEAK_KEPT, 2, 0, 0);
     told("entry 196609       shrunk 1", beak_entry(196609), BEAK_SHRUNK, 1, 0, 0);
-    told("entry 262656       tight 512", beak_entry(262656), BEAK_TIGHT, 512, 0, 0);
+    told("entry 262400       tight 256", beak_entry(262400), BEAK_TIGHT, 256, 0, 0);
     told("entry 0            none", beak_entry(0), 0, 0, 0, 0);
     told("entry as it was    none", beak_entry(before), 0, 0, 0, 0);
 }
 
-/* Of 6, 12, 24, 48, .. the largest from 12 to 30 is 24, four blocks; from 13 to 23 there is none. */
+/* Of 6, 12, 24, 48, .. 1,536 the largest from 12 to 30 is 24, four blocks; from 13 to 23 there is none. Up to 3,200 it is 1,536, and above that none. */
 static void by_a_range(void) {
     struct beak other;
     beak_start(&other);
     told("admit 0 12 30 1 1  ok 4 0 1", beak_admit(&other, 0, 12, 30, 1, 1), BEAK_PLACED, 4, 0, 1);
     told("admit 1 13 23 1 1  no 15", beak_admit(&other, 1, 13, 23, 1, 1), BEAK_REFUSED, 15, 0, 0);
+    told("admit 1 3200 1 1   ok 256 2 1", beak_admit(&other, 1, BEAK_LEAST_INTERVAL, 3200, 1, 1), BEAK_PLACED, 256, 2, 1);
+    told("from 1537 to 3200  no 15", beak_admit(&other, 2, 1537, 3200, 1, 1), BEAK_REFUSED, 15, 0, 0);
 }
 
 /* A default is read, and written again; with latency 1 it is forbidden, as 500 * 2 is above 500. A request is written, and read again. */

@@ -20,7 +20,7 @@ static ucontext_t here, there;
 
 static void nothing(void) {}
 static void admit_whole(void) { said = beak_admit(&s, 0, BEAK_LEAST_INTERVAL, 6, 1, 1); }
-static void admit_longest(void) { said = beak_admit(&s, 0, BEAK_LEAST_INTERVAL, 3072, 512, 512); }
+static void admit_longest(void) { said = beak_admit(&s, 0, BEAK_LEAST_INTERVAL, 3072, 256, 256); }
 static void admit_half(void) { said = beak_admit(&s, 0, BEAK_LEAST_INTERVAL, 12, 1, 2); }
 static void drop(void) { said = beak_drop(&s, 0); }
 static void report(void) { said = beak_report(&s, 0, 7500); }
@@ -45,7 +45,7 @@ static void fresh(void) { beak_start(&s); }
 
 static void fill(void) {
     fresh();
-    for (uint32_t handle = 0; handle < 64; handle++) said = beak_admit(&s, handle, BEAK_LEAST_INTERVAL, 3072, 8, 8);
+    for (uint32_t handle = 0; handle < 64; handle++) said = beak_admit(&s, handle, BEAK_LEAST_INTERVAL, 3072, 4, 4);
 }
 
 /* All of one handle, of which the first grows. */
@@ -77,7 +77,7 @@ int main(void) {
     measure("drop", "the whole tree", drop);
     measure("load", "the whole tree", load);
     fresh();
-    measure("admit", "a run of 512 blocks", admit_longest);
+    measure("admit", "a run of 256 blocks", admit_longest);
     fresh();
     admit_half();
     measure("report", "grown, half of the tree", report);
