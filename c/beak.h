@@ -166,7 +166,8 @@ static inline struct beak_said beak_entry(uint32_t entry) {
 }
 
 /* Load an image in place of the schedule: LOADED. Refused, in this order: 9 records wrong, 10 numbers not sound, 18 a factor of 512 and everything
- * else of its records sound, 11 a block owned twice, 12 tree bytes wrong. A house whose image gets 18 is joined afresh: start anew and admit its loggers again. */
+ * else of its records sound, 11 a block owned twice, 12 tree bytes wrong. A house whose image gets 18 is joined afresh: start anew and admit its
+ * loggers again. */
 static inline struct beak_said beak_load(struct beak *s, const uint8_t *bytes, size_t size) {
     const uint8_t none = 0;
     struct beak_called r = beak_loaded(*s, size != 0 ? bytes : &none, size);
