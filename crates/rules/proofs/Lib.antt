@@ -3,4 +3,5 @@ pub mod TableP
 pub mod Ranges
 pub mod WholeCase
 pub mod Readings
+pub mod TidyCase
 pub mod MessageValues

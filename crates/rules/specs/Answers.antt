@@ -18,6 +18,8 @@ use Rattle.rules.specs.declared.Saving.{Saving}
 use Rattle.rules.specs.declared.Saving.the-variants.{Size, Refused as SavingRefused}
 use Rattle.rules.specs.declared.Loading.{Loading}
 use Rattle.rules.specs.declared.Loading.the-variants.{Count, Refused as LoadingRefused}
+use Rattle.rules.specs.declared.Tidying.{Tidying}
+use Rattle.rules.specs.declared.Tidying.the-variants.{Count as TidyingCount, Refused as TidyingRefused}
 use Rattle.rules.specs.declared.Message.{Message}
 use Rattle.rules.specs.declared.Reading.{Reading}
 use Rattle.rules.specs.declared.Reading.the-variants.{Is, Refused as ReadingRefused}
@@ -30,6 +32,7 @@ use Rattle.rules.specs.declared.Dropped.{Dropped}
 use Rattle.rules.specs.declared.Reported.{Reported}
 use Rattle.rules.specs.declared.ReportedAll.{ReportedAll}
 use Rattle.rules.specs.declared.Loaded.{Loaded}
+use Rattle.rules.specs.declared.Tidied.{Tidied}
 use Rattle.rules.specs.declared.Obeyed.{Obeyed}
 use Rattle.rules.specs.Refusals.{number}
 
@@ -47,6 +50,7 @@ pub data Answer : Type 0 where
   reported : ℕ → Answer
   message : Message → Answer
   wrote : ℕ → Answer
+  tidied : ℕ → Answer
 
 -- What a call leaves: its answer and the schedule afterwards.
 pub record Outcome : Type 0 where
@@ -58,6 +62,10 @@ pub record Listed : Type 0 where
   pub answer : Answer
   pub schedule : Schedule
   pub list : List ℕ
+
+-- Its answer and the schedule, without the list.
+abbrev pub withoutList : Listed → Outcome
+withoutList o = record { answer = o .answer; schedule = o .schedule }
 
 -- What a call leaves that writes into a lent buffer: its answer and every byte of the buffer. No schedule is touched.
 pub record Written : Type 0 where
@@ -120,6 +128,10 @@ abbrev pub ofWriting : Writing → Answer
 ofWriting (WritingSize n) = wrote n
 ofWriting (WritingRefused r) = refused (number r)
 
+abbrev pub ofTidying : Tidying → Answer
+ofTidying (TidyingCount n) = tidied n
+ofTidying (TidyingRefused r) = refused (number r)
+
 abbrev pub ofReply : Reply → Answer
 ofReply (ReplyAdmission a) = ofAdmission a
 ofReply (ReplyDropping a) = ofDropping a
@@ -142,6 +154,9 @@ ofReportedAll r list = record { answer = ofReportingAll (r .answer); schedule = 
 
 abbrev pub ofLoaded : Loaded → Outcome
 ofLoaded r = record { answer = ofLoading (r .answer); schedule = r .schedule }
+
+abbrev pub ofTidied : Tidied → List ℕ → Listed
+ofTidied r list = record { answer = ofTidying (r .answer); schedule = r .schedule; list = list }
 
 abbrev pub ofObeyed : Obeyed → Outcome
 ofObeyed r = record { answer = ofReply (r .reply); schedule = r .schedule }

@@ -1,7 +1,7 @@
 -- Questions about the whole numbers below a bound.
 use Prim.Native.Nat.{ℕ, zero, suc, _+_}
 use mathlib.Core.Bool.{Bool, true, false, _||_, _&&_, cond}
-use mathlib.Core.List.{List, [], _∷_}
+use mathlib.Core.List.{List, [], _∷_, _++_}
 use mathlib.Core.Option.{Option, none, some, Option·getD}
 
 -- The test holds of every number below n.
@@ -51,3 +51,15 @@ isNone (some x) = false
 unfoldable pub tabulate {ℓ} : {A : Type ℓ} → ℕ → (ℕ → A) → List A
 tabulate zero f = []
 tabulate (suc n) f = f 0 ∷ tabulate n (λ i. f (suc i))
+
+-- What there is for 0, for 1 and so on up to n - 1, in turn.
+unfoldable pub inTurn {ℓ} : {A : Type ℓ} → ℕ → (ℕ → List A) → List A
+inTurn zero f = []
+inTurn (suc n) f =
+    let earlier = inTurn n f in
+    earlier ++ f n
+
+-- The numbers below n of which the test holds, rising.
+unfoldable pub those : ℕ → (ℕ → Bool) → List ℕ
+unfolding inTurn
+those n test = inTurn n (λ i. cond (test i) (i ∷ []) [])

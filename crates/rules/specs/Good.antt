@@ -3,10 +3,10 @@ use Prim.Native.Nat.{ℕ}
 use mathlib.Core.Path.{_≡_}
 use mathlib.Core.Bool.{true, false}
 use mathlib.Core.List.{List}
-use lib.ListN.{length, set, replicate}
+use lib.ListN.{length, set}
 use Rattle.rules.specs.declared.Connection.{Connection}
 use Rattle.rules.specs.declared.Schedule.{Schedule}
-use Rattle.rules.specs.Ownership.{handles, nobody, at, taken}
+use Rattle.rules.specs.Ownership.{handles, nobody, freeSlots, at, taken}
 use Rattle.rules.specs.TreeBytes.{treeOf}
 use Rattle.rules.specs.Sound.{sound}
 
@@ -30,7 +30,7 @@ FreeSlotsZero s = (h : ℕ) → at (s .connections) h .live ≡ false → at (s 
 unfoldable pub fresh : Schedule
 unfolding treeFor
 fresh =
-    let cs = replicate handles nobody in
+    let cs = freeSlots in
     let bytes = treeFor cs in
     record { connections = cs; tree = record { bytes = bytes } }
 

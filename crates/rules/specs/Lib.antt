@@ -19,6 +19,7 @@ pub mod Meter
 pub mod Report
 pub mod Lent
 pub mod Reports
+pub mod Tidy
 pub mod Owner
 pub mod Anchor
 pub mod Obey

@@ -3,11 +3,11 @@ use Prim.Native.Nat.{ℕ}
 use mathlib.Core.Bool.{Bool, true, false, not, _||_, _&&_}
 use mathlib.Core.List.{List, [], _∷_, map}
 use lib.Dec.{ltb}
-use lib.ListN.{set, replicate}
+use lib.ListN.{set}
 use Rattle.rules.specs.declared.Connection.{Connection}
 use Rattle.rules.specs.declared.Schedule.{Schedule}
 use Rattle.rules.specs.declared.Refusal.the-variants.{RecordsWrong, NumbersUnsound, FactorIllegal, BlockOwnedTwice, TreeDiffers}
-use Rattle.rules.specs.Ownership.{handles, largestK, nobody}
+use Rattle.rules.specs.Ownership.{handles, largestK, freeSlots}
 use Rattle.rules.specs.Sound.{numbersWithin, apart}
 use Rattle.rules.specs.Good.{treeFor, fresh, withConnections}
 use Rattle.rules.specs.Refusals.{Check, check, decided}
@@ -57,7 +57,7 @@ factorIllegal rs = anyIllegal (connectionsIn rs)
 -- The connections of the records, each at its handle.
 unfoldable pub atHandles : List Piece → List Connection
 unfolding handleIn connectionIn
-atHandles [] = replicate handles nobody
+atHandles [] = freeSlots
 atHandles (r ∷ rs) = set (atHandles rs) (handleIn r) (connectionIn r)
 
 unfoldable pub connectionsOf : List Piece → List Connection

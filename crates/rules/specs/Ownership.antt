@@ -3,7 +3,7 @@ use Prim.Native.Nat.{ℕ, suc, _^_, _-_}
 use mathlib.Core.Bool.{Bool, false, _||_, _&&_}
 use mathlib.Core.List.{List, [], _∷_}
 use lib.Dec.{ltb}
-use lib.ListN.{getD}
+use lib.ListN.{getD, replicate}
 use Rattle.rules.specs.declared.Connection.{Connection}
 use Rattle.rules.specs.Time.{minusMod}
 use Rattle.rules.specs.Core.{Subrating}
@@ -25,6 +25,10 @@ factor c = 2 ^ (c .k)
 -- A free slot: a handle with no connection.
 abbrev pub nobody : Connection
 nobody = record { live = false; k = 0; anchor = 0; length = 0; floor = 0; ceiling = 0; estimate = 0 }
+
+-- 64 of them.
+abbrev pub freeSlots : List Connection
+freeSlots = replicate handles nobody
 
 -- The connection of a handle.
 abbrev pub at : List Connection → ℕ → Connection

@@ -8,7 +8,7 @@ use Rattle.rules.specs.declared.Schedule.{Schedule}
 use Rattle.rules.specs.declared.Report.{Report}
 use Rattle.rules.specs.declared.Refusal.the-variants.{ReportsMany, ListShort}
 use Rattle.rules.specs.Refusals.{Check, check, decided}
-use Rattle.rules.specs.Answers.{Answer, Outcome, Listed, refusingList, refused, ok, dropped, kept, grown, shrunk, tight, owner, idle, slots, saved, loaded, reported, message, wrote}
+use Rattle.rules.specs.Answers.{Answer, Outcome, Listed, refusingList, refused, ok, dropped, kept, grown, shrunk, tight, owner, idle, slots, saved, loaded, reported, message, wrote, tidied}
 use Rattle.rules.specs.Report.{report}
 use Rattle.rules.specs.Lent.{over}
 
@@ -54,6 +54,7 @@ coded (loaded n) = 0
 coded (reported n) = 0
 coded (message m) = 0
 coded (wrote n) = 0
+coded (tidied n) = 0
 
 -- "The radio core wakes us .. with up to 64 reports."
 abbrev pub mostReports : ℕ

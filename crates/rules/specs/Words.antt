@@ -4,7 +4,7 @@ use mathlib.Core.List.{List, [], _∷_, _++_}
 use Rattle.rules.specs.declared.Message.{Message}
 use Rattle.rules.specs.declared.Message.the-variants.{Default, Request, Change}
 use Rattle.rules.specs.Text.{byte, text}
-use Rattle.rules.specs.Answers.{Answer, refused, ok, dropped, kept, grown, shrunk, tight, owner, idle, slots, saved, loaded, reported, message, wrote}
+use Rattle.rules.specs.Answers.{Answer, refused, ok, dropped, kept, grown, shrunk, tight, owner, idle, slots, saved, loaded, reported, message, wrote, tidied}
 use Rattle.rules.specs.Messages.{valuesOf}
 use Rattle.rules.specs.Decimal.{decimal}
 
@@ -39,6 +39,7 @@ wordsOf (loaded n) = text "loaded" ++ spaced (n ∷ [])
 wordsOf (reported n) = text "reported" ++ spaced (n ∷ [])
 wordsOf (message m) = messageWord m ++ spaced (valuesOf m)
 wordsOf (wrote n) = text "wrote" ++ spaced (n ∷ [])
+wordsOf (tidied n) = text "tidied" ++ spaced (n ∷ [])
 
 -- No answer of a command has a longer line, with its LF: four bytes for each byte of the shortest command, `drop 0`, and its LF.
 abbrev pub longestAnswer : ℕ

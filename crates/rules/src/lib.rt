@@ -26,6 +26,9 @@ pub const HANDLES: usize = LAST_HANDLE as usize + 1;
 /// The most reports of one list.
 pub const MOST_REPORTS: usize = 64;
 
+/// How many numbers an entry of the list of moves has: handle, old anchor, new anchor.
+pub const MOVE_WIDTH: usize = 3;
+
 /// The largest k of a connection's factor 2^k.
 pub const LARGEST_K: u8 = 8;
 
@@ -175,6 +178,7 @@ pub enum Refusal {
     MessageWrong,
     ValuesForbidden,
     FactorIllegal,
+    NoAnchorForAll,
 }
 
 /// What a largest interval gives: the largest k of a connection with 6 × 2^k not above it, or nothing.
@@ -275,6 +279,12 @@ pub enum Loading {
     Refused(Refusal),
 }
 
+/// How many anchors differ.
+pub enum Tidying {
+    Count(u8),
+    Refused(Refusal),
+}
+
 /// The message that bytes are.
 pub enum Reading {
     Is(Message),
@@ -368,6 +378,17 @@ pub struct Restored {
 
 pub struct Loaded {
     pub answer: Loading,
+    pub schedule: Schedule,
+}
+
+/// Whether every connection found an anchor, and the schedule of those that did.
+pub struct Arranged {
+    pub all: bool,
+    pub schedule: Schedule,
+}
+
+pub struct Tidied {
+    pub answer: Tidying,
     pub schedule: Schedule,
 }
 
