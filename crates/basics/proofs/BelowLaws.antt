@@ -1,14 +1,15 @@
 -- What the questions about the numbers below a bound mean.
-use mathlib.Core.Path.{_≡_, refl, sym, ap, ap₂, _∙_}
+use mathlib.Core.Path.{_≡_, refl, sym, ap, ap₂, _∙_, subst}
 use mathlib.Core.Bool.{Bool, true, false, _||_, _&&_, cond, or-true, false≢true}
-use mathlib.Core.Logic.{_≢_, by-cases}
-use mathlib.Core.List.{List, [], _∷_, _++_}
+use mathlib.Core.Logic.{_≢_, by-cases, ⊎-elim}
+use mathlib.Core.List.{List, [], _∷_, _++_, map, append-nil, append-assoc, List·Memᴰ as In, List·Memᴰ·head, List·Memᴰ·tail, List·Memᴰ·not-nil, List·Memᴰ·cases-cons, List·Memᴰ·append-cases, List·Memᴰ·eq-of-singleton, Memᴰ·append-left, Memᴰ·append-right}
 use mathlib.Core.Option.{Option, none, some, Option·getD}
 use Prim.Native.Nat.{ℕ, zero, suc, _+_, _-_, _<_, _≤_}
+use native.Mathlib.Nat.{add-zero, add-suc}
 use native.Mathlib.Decide.{ℕ-discrete, decLe}
 use native.Mathlib.Omega.{arith}
-use lib.ListN.{length, getD}
-use Rattle.rules.specs.Below.{every, any, leastFrom, least, greatest, largest, isNone, tabulate}
+use lib.ListN.{length, getD, length-append}
+use Rattle.rules.specs.Below.{every, any, leastFrom, least, greatest, largest, isNone, tabulate, inTurn, those}
 use Rattle.basics.proofs.BoolLaws.{both, is-false}
 
 -- ---- every
@@ -238,3 +239,168 @@ unfolding largest
 largest-unique n f k h t last =
     ap (λ (o : Option ℕ). Option·getD o 0)
     (greatest-is (suc n) f k (record { below = omega arith; holds = t; last = λ i l m. last i l (omega arith) }))
+
+-- ---- in turn
+-- What there is for one more comes last;
+pub turn-next {ℓ} : {A : Type ℓ} (n : ℕ) (f : ℕ → List A) → inTurn (suc n) f ≡ inTurn n f ++ f n
+unfolding inTurn
+turn-next n f = refl
+
+-- what there is for the first n comes first.
+pub turn-append {ℓ} : {A : Type ℓ} (n m : ℕ) (f : ℕ → List A) → inTurn (n + m) f ≡ inTurn n f ++ inTurn m (λ i. f (n + i))
+unfolding inTurn
+turn-append n zero f = rw (add-zero n) (sym (append-nil (inTurn n f)))
+turn-append {A = A} n (suc m) f =
+    rw (add-suc n m) (ap (λ (l : List A). l ++ f (n + m)) (turn-append n m f) ∙ append-assoc (inTurn n f) (inTurn m (λ i. f (n + i))) (f (n + m)))
+
+pub turn-first {ℓ} : {A : Type ℓ} (n m : ℕ) (f : ℕ → List A) → n ≤ m → inTurn m f ≡ inTurn n f ++ inTurn (m - n) (λ i. f (n + i))
+turn-first n m f l =
+    let e : n + (m - n) ≡ m = omega arith in
+    rw e at (turn-append n (m - n) f)
+
+pub turn-ext {ℓ} : {A : Type ℓ} (n : ℕ) (f g : ℕ → List A) → ((i : ℕ) → i < n → f i ≡ g i) → inTurn n f ≡ inTurn n g
+unfolding inTurn
+turn-ext zero f g h = refl
+turn-ext (suc n) f g h = ap₂ _++_ (turn-ext n f g (λ i l. h i (omega arith))) (h n (omega arith))
+
+-- Something is in it exactly if it is there for a number below n.
+pub turn-at {ℓ} : {A : Type ℓ} (n : ℕ) (f : ℕ → List A) (a : A) → In a (inTurn n f) → (i : ℕ) × (i < n) × In a (f i)
+unfolding inTurn
+turn-at zero f a m = absurd (List·Memᴰ·not-nil m)
+turn-at (suc n) f a m =
+    ⊎-elim (λ q. let w = turn-at n f a q in (w .0, omega arith, w .2)) (λ q. (n, omega arith, q)) (List·Memᴰ·append-cases (inTurn n f) m)
+
+pub turn-of {ℓ} : {A : Type ℓ} (n : ℕ) (f : ℕ → List A) (a : A) (i : ℕ) → i < n → In a (f i) → In a (inTurn n f)
+unfolding inTurn
+turn-of zero f a i l m = absurd (omega arith)
+turn-of (suc n) f a i l m =
+    by-cases (ℕ-discrete i n)
+    (λ q. Memᴰ·append-right (inTurn n f) (subst (λ (j : ℕ). In a (f j)) q m))
+    (λ q. Memᴰ·append-left (f n) (turn-of n f a i (omega arith) m))
+
+-- ---- those
+pub those-next : (n : ℕ) (f : ℕ → Bool) → those (suc n) f ≡ those n f ++ cond (f n) (n ∷ []) []
+unfolding those
+those-next n f = turn-next n (λ i. cond (f i) (i ∷ []) [])
+
+pub those-more : (n : ℕ) (f : ℕ → Bool) → f n ≡ true → those (suc n) f ≡ those n f ++ (n ∷ [])
+those-more n f e = rw e at (those-next n f)
+
+pub those-same : (n : ℕ) (f : ℕ → Bool) → f n ≡ false → those (suc n) f ≡ those n f
+those-same n f e = rw (e, append-nil (those n f)) at (those-next n f)
+
+-- The first n of them come first.
+pub those-first : (n m : ℕ) (f : ℕ → Bool) → n ≤ m → (later : List ℕ) × (those m f ≡ those n f ++ later)
+unfolding those
+those-first n m f l = (inTurn (m - n) (λ i. cond (f (n + i)) ((n + i) ∷ []) []), turn-first n m (λ i. cond (f i) (i ∷ []) []) l)
+
+pub those-ext : (n : ℕ) (f g : ℕ → Bool) → ((i : ℕ) → i < n → f i ≡ g i) → those n f ≡ those n g
+unfolding those
+those-ext n f g h = turn-ext n (λ i. cond (f i) (i ∷ []) []) (λ i. cond (g i) (i ∷ []) []) (λ i l. ap (λ (v : Bool). cond v (i ∷ []) []) (h i l))
+
+-- A number is one of those exactly if it is below n and the test holds of it.
+one-at : (v : Bool) (i a : ℕ) → In a (cond v (i ∷ []) []) → (a ≡ i) × (v ≡ true)
+one-at true i a m = (List·Memᴰ·eq-of-singleton m, refl)
+one-at false i a m = absurd (List·Memᴰ·not-nil m)
+
+pub those-at : (n : ℕ) (f : ℕ → Bool) (a : ℕ) → In a (those n f) → (a < n) × (f a ≡ true)
+unfolding those
+those-at n f a m =
+    let w = turn-at n (λ i. cond (f i) (i ∷ []) []) a m in
+    let q = one-at (f (w .0)) (w .0) a (w .2) in
+    (omega (arith, q .0), ap f (q .0) ∙ q .1)
+
+pub those-of : (n : ℕ) (f : ℕ → Bool) (a : ℕ) → a < n → f a ≡ true → In a (those n f)
+unfolding those
+those-of n f a l e = turn-of n (λ i. cond (f i) (i ∷ []) []) a a l (rw e (List·Memᴰ·head refl))
+
+-- There are at most n.
+pub those-most : (n : ℕ) (f : ℕ → Bool) → length (those n f) ≤ n
+unfolding those inTurn
+those-most zero f = omega arith
+those-most (suc n) f = go (f n) (those-most n f)
+  where
+    go : (v : Bool) → length (those n f) ≤ n → length (those n f ++ cond v (n ∷ []) []) ≤ suc n
+    go true l = omega (arith, length-append (those n f) (n ∷ []))
+    go false l = omega (arith, length-append (those n f) [])
+
+-- Of none there is none.
+pub those-none : (n : ℕ) (f : ℕ → Bool) → ((i : ℕ) → i < n → f i ≡ false) → those n f ≡ []
+unfolding those
+those-none zero f h = refl
+those-none (suc n) f h = those-same n f (h n (omega arith)) ∙ those-none n f (λ i l. h i (omega arith))
+
+-- ---- what is in a list
+-- The entry at each place is,
+pub in-at : {A : Type 0} (l : List A) (i : ℕ) (d : A) → i < length l → In (getD l i d) l
+in-at [] i d h = absurd (omega arith)
+in-at (x ∷ l) zero d h = List·Memᴰ·head refl
+in-at (x ∷ l) (suc i) d h = List·Memᴰ·tail (in-at l i d (omega arith))
+
+-- and what a function takes the entries to is in the list that it takes it to.
+module _ {A B : Type 0} (f : A → B) where
+  pub map-at : (l : List A) (b : B) → In b (map f l) → (a : A) × In a l × (f a ≡ b)
+  map-at [] b m = absurd (List·Memᴰ·not-nil m)
+  map-at (x ∷ l) b m =
+      ⊎-elim (λ q. (x, List·Memᴰ·head refl, sym q)) (λ q. let w = map-at l b q in (w .0, List·Memᴰ·tail (w .1), w .2)) (List·Memᴰ·cases-cons m)
+
+  pub map-of : {a : A} (l : List A) → In a l → In (f a) (map f l)
+  map-of l (List·Memᴰ·head e) = List·Memᴰ·head (ap f e)
+  map-of l (List·Memᴰ·tail {xs = xs} m) = List·Memᴰ·tail (map-of xs m)
+
+-- ---- what comes before what
+-- R holds of each entry with each later one.
+abbrev pub Ordered : {A : Type 0} → (A → A → Type 0) → List A → Type 0
+Ordered R [] = Unit {0}
+Ordered {A} R (a ∷ l) = ((b : A) → In b l → R a b) × Ordered R l
+
+module _ {A : Type 0} (R : A → A → Type 0) where
+  -- So it is of two lists one after the other, where it is of each and across;
+  pub ordered-append : (xs ys : List A) → Ordered R xs → Ordered R ys → ((a b : A) → In a xs → In b ys → R a b) → Ordered R (xs ++ ys)
+  ordered-append [] ys p q across = q
+  ordered-append (x ∷ xs) ys p q across =
+      let later = ordered-append xs ys (p .1) q (λ a b m. across a b (List·Memᴰ·tail m)) in
+      (λ b m. ⊎-elim (λ n. p .0 b n) (λ n. across x b (List·Memᴰ·head refl) n) (List·Memᴰ·append-cases xs m), later)
+
+  -- and back.
+  pub ordered-across : (xs ys : List A) → Ordered R (xs ++ ys) → (a b : A) → In a xs → In b ys → R a b
+  ordered-across [] ys p a b m n = absurd (List·Memᴰ·not-nil m)
+  ordered-across (x ∷ xs) ys p a b m n =
+      ⊎-elim (λ q. subst (λ (z : A). R z b) (sym q) (p .0 b (Memᴰ·append-right xs n))) (λ q. ordered-across xs ys (p .1) a b q n) (List·Memᴰ·cases-cons m)
+
+  -- So it is in turn, where it is of what there is for each number, and across.
+  pub turn-ordered : (n : ℕ) (f : ℕ → List A) → ((i : ℕ) → Ordered R (f i)) → ((i j : ℕ) → i < j → (a b : A) → In a (f i) → In b (f j) → R a b) → Ordered R (inTurn n f)
+  unfolding inTurn
+  turn-ordered zero f each across = tt
+  turn-ordered (suc n) f each across =
+      ordered-append (inTurn n f) (f n) (turn-ordered n f each across) (each n) (λ a b p q. let w = turn-at n f a p in across (w .0) n (w .1) a b (w .2) q)
+
+-- What follows from R, for entries of the list, holds so too.
+pub ordered-so : {A : Type 0} (R Q : A → A → Type 0) (l : List A) → ((a b : A) → In a l → In b l → R a b → Q a b) → Ordered R l → Ordered Q l
+ordered-so R Q [] so p = tt
+ordered-so R Q (x ∷ l) so p =
+    (λ b m. so x b (List·Memᴰ·head refl) (List·Memᴰ·tail m) (p .0 b m), ordered-so R Q l (λ a b m n. so a b (List·Memᴰ·tail m) (List·Memᴰ·tail n)) (p .1))
+
+-- So it is by two places,
+pub ordered-at : {A : Type 0} (R : A → A → Type 0) (l : List A) (d : A) → Ordered R l → (i j : ℕ) → i < j → j < length l → R (getD l i d) (getD l j d)
+ordered-at R [] d p i j l h = absurd (omega arith)
+ordered-at R (x ∷ xs) d p i zero l h = absurd (omega arith)
+ordered-at R (x ∷ xs) d p zero (suc j) l h = p .0 (getD xs j d) (in-at xs j d (omega arith))
+ordered-at R (x ∷ xs) d p (suc i) (suc j) l h = ordered-at R xs d (p .1) i j (omega arith) (omega arith)
+
+-- and of what a function takes the entries to.
+pub ordered-map : {A B : Type 0} (f : A → B) (R : B → B → Type 0) (l : List A) → Ordered (λ a b. R (f a) (f b)) l → Ordered R (map f l)
+ordered-map f R [] p = tt
+ordered-map {B = B} f R (x ∷ l) p =
+    (λ b m. let w = map-at f l b m in subst (λ (y : B). R (f x) y) (w .2) (p .0 (w .0) (w .1)), ordered-map f R l (p .1))
+
+-- Those rise.
+one-ordered : (v : Bool) (i : ℕ) → Ordered (λ a b. a < b) (cond v (i ∷ []) [])
+one-ordered true i = (λ b m. absurd (List·Memᴰ·not-nil m), tt)
+one-ordered false i = tt
+
+pub those-rise : (n : ℕ) (f : ℕ → Bool) → Ordered (λ a b. a < b) (those n f)
+unfolding those
+those-rise n f =
+    turn-ordered (λ a b. a < b) n (λ i. cond (f i) (i ∷ []) []) (λ i. one-ordered (f i) i)
+    (λ i j l a b p q. omega (arith, one-at (f i) i a p .0, one-at (f j) j b q .0))

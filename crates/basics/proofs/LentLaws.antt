@@ -39,6 +39,17 @@ over-next new old x l =
     ∙ sym (append-assoc new (x ∷ []) (drop (suc (length new)) old))
     ∙ ap (λ (k : ℕ). (new ++ (x ∷ [])) ++ drop k old) (sym e)
 
+-- So are several, one after the other.
+pub over-more : (new old xs : List ℕ) → length new + length xs ≤ length old → sets (over new old) (length new) xs ≡ over (new ++ xs) old
+over-more new old [] l = sym (ap (λ (x : List ℕ). over x old) (append-nil new))
+over-more new old (x ∷ xs) l =
+    let one = new ++ (x ∷ []) in
+    let n : length one ≡ suc (length new) = omega (arith, length-append new (x ∷ [])) in
+    ap (λ (b : List ℕ). sets b (suc (length new)) xs) (over-next new old x (omega arith))
+    ∙ ap (λ (i : ℕ). sets (over one old) i xs) (sym n)
+    ∙ over-more one old xs (omega arith)
+    ∙ ap (λ (y : List ℕ). over y old) (append-assoc new (x ∷ []) xs)
+
 -- ---- one value in each of the first i entries
 module _ (l b : List ℕ) (i v : ℕ) (e : b ≡ over (replicate i v) l) where
   -- There are as many entries as before;

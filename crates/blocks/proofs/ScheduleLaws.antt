@@ -1,41 +1,60 @@
 -- What becomes of a schedule when the connection of one handle changes.
 use mathlib.Core.Path.{_≡_, refl, sym, ap, ap₂, _∙_, subst}
 use mathlib.Core.Bool.{Bool, true, false, _||_, _&&_, cond, or-true, false≢true}
-use mathlib.Core.Logic.{_≢_, by-cases}
+use mathlib.Core.Logic.{_≢_, by-cases, _↔_}
 use mathlib.Core.List.{List}
-use Prim.Native.Nat.{ℕ, zero, suc, _^_, _<_, _≤_}
+use Prim.Native.Nat.{ℕ, zero, suc, _+_, _%_, _^_, _<_, _≤_}
+use native.Mathlib.Nat.{mod-lt}
 use native.Mathlib.Decide.{ℕ-discrete, decLe}
 use native.Mathlib.Omega.{arith}
+use lib.Pow.{pow-pos}
 use lib.Dec.{leb, ltb}
 use lib.ListN.{length, set, replicate, length-set, List·getD-eq-default}
 use lib.Seq.{getD-set-same, getD-set-other, set-getD}
-use borrow.Author.Tests.{le-leb, lt-leb, lt-ltb, le-ltb}
+use borrow.Author.Tests.{le-leb, lt-leb, lt-ltb, le-ltb, ltb-true}
 use Rattle.rules.specs.declared.Connection.{Connection}
 use Rattle.rules.specs.declared.Schedule.{Schedule}
 use Rattle.rules.specs.Time.{minusMod}
-use Rattle.rules.specs.Ownership.{handles, nobody, at, belongs, owns, taken}
+use Rattle.rules.specs.Ownership.{handles, nobody, freeSlots, at, belongs, owns, taken}
+use Rattle.rules.specs.Classes.{depth, runFree}
 use Rattle.blocks.specs.Taking.{nothing, setRun}
 use Rattle.rules.specs.TreeBytes.{treeOf}
 use Rattle.rules.specs.Good.{Good, FreeSlotsZero, treeFor, fresh, withConnections, withConnection}
 use Rattle.rules.specs.Handles.{connection, isLive}
 use Rattle.basics.proofs.BoolLaws.{bool-iff, is-false}
+use Rattle.basics.proofs.BelowLaws.{every-at, every-of}
+use Rattle.blocks.proofs.EndlessTime.{minusMod-back}
+use Rattle.blocks.proofs.ClassLaws.{within-depth}
 use Rattle.blocks.proofs.TreeLaws.{tree-ext}
-use Rattle.rules.specs.Sound.{Numbers, sound}
-use Rattle.blocks.proofs.SoundLaws.{Sound, sound-exactly, taken-at, taken-of, good-connections, connected-good}
+use Rattle.rules.specs.Sound.{Numbers, soundConnections, sound}
+use Rattle.blocks.proofs.SoundLaws.{Sound, sound-exactly, class-free-ever, taken-at, taken-of, good-connections, connected-good}
 
 -- ---- nobody
+-- Of free slots each is one,
+pub at-free : (n h : ℕ) → at (replicate n nobody) h ≡ nobody
+at-free zero h = refl
+at-free (suc n) zero = refl
+at-free (suc n) (suc h) = at-free n h
+
 pub nobody-owns : (b : ℕ) → owns nobody b ≡ false
 unfolding owns
 nobody-owns b = refl
 
-taken-nobody : (n b : ℕ) → taken (replicate n nobody) b ≡ false
+-- and they are sound, and take nothing.
+pub free-sound : (n : ℕ) → Sound (replicate n nobody)
+free-sound n = record {
+  numbers = λ h l. absurd (false≢true (sym (ap (λ (c : Connection). c .live) (at-free n h)) ∙ l));
+  apart-ever = λ b h j x y. absurd (false≢true (sym (ap (λ (c : Connection). owns c b) (at-free n h) ∙ nobody-owns b) ∙ x));
+}
+
+pub taken-nobody : (n b : ℕ) → taken (replicate n nobody) b ≡ false
 unfolding taken
 taken-nobody zero b = refl
 taken-nobody (suc n) b = ap₂ _||_ (nobody-owns b) (taken-nobody n b)
 
-pub fresh-tree : treeOf nothing ≡ treeFor (replicate handles nobody)
+pub fresh-tree : treeOf nothing ≡ treeFor freeSlots
 unfolding treeFor
-fresh-tree = tree-ext nothing (taken (replicate handles nobody)) (λ b l. sym (taken-nobody handles b))
+fresh-tree = tree-ext nothing (taken freeSlots) (λ b l. sym (taken-nobody handles b))
 
 pub fresh-is-good : Good fresh
 unfolding fresh sound
@@ -168,6 +187,43 @@ module _ (cs : List Connection) (h k A L M : ℕ) (l : h < length cs) (old : Run
       rw (taken-split cs h l b, taken-set cs h l c b, old b, new b)
       (shorter (minusMod b A (2 ^ k)) L M (others cs h b) g (λ e. others-apart cs h l s b (old b ∙ e))))
 
+-- ---- a run that is free
+-- The whole run of n blocks at A is free, in endless time.
+abbrev pub RunFreeEver : List Connection → ℕ → ℕ → ℕ → Type 0
+RunFreeEver cs k n A = (j : ℕ) → j < n → (b h : ℕ) → b % 2 ^ k ≡ (A + j) % 2 ^ k → owns (at cs h) b ≡ false
+
+-- So it is exactly if its classes are free.
+pub run-ever : (cs : List Connection) (k n A : ℕ) → soundConnections cs ≡ true → k ≤ depth → (runFree (taken cs) k A n ≡ true) ↔ RunFreeEver cs k n A
+unfolding runFree
+run-ever cs k n A s hk = (
+  λ e j l b h m. class-free-ever cs k ((A + j) % 2 ^ k) s hk (mod-lt (A + j) (pow-pos k)) .0 (every-at n _ e j l) b h m,
+  λ f. every-of n _ (λ j l. class-free-ever cs k ((A + j) % 2 ^ k) s hk (mod-lt (A + j) (pow-pos k)) .1 (λ b h m. f j l b h m)),
+)
+
+-- A block that belongs to a run that is free belongs to nobody.
+pub run-nobody : (cs : List Connection) (k n A b h : ℕ) → RunFreeEver cs k n A → minusMod b A (2 ^ k) < n → owns (at cs h) b ≡ false
+run-nobody cs k n A b h f l = f (minusMod b A (2 ^ k)) l b h (sym (minusMod-back b A (2 ^ k) (pow-pos k)))
+
+-- ---- a connection joins those placed, whether it is admitted, loaded or placed anew
+module _ (cs : List Connection) (h : ℕ) (l : h < length cs) (c : Connection) (live : c .live ≡ true) where
+  module _ (s : Sound cs) (n : Numbers c) (f : runFree (taken cs) (c .k) (c .anchor) (c .length) ≡ true) where
+    -- Where its numbers are sound and its run is free, it has no block of the others,
+    pub joined-apart : (b : ℕ) → owns c b ≡ true → others cs h b ≡ false
+    joined-apart b o =
+        let ever = run-ever cs (c .k) (c .length) (c .anchor) (sound-exactly cs .1 s) (within-depth (n .deep)) .0 f in
+        is-false (others cs h b) (λ t.
+        let w = others-at cs h l b t in
+        false≢true (sym (run-nobody cs (c .k) (c .length) (c .anchor) b (w .0) ever (ltb-true _ _ (sym (live-runs c live b) ∙ o))) ∙ w .2))
+
+    -- and they stay sound and apart;
+    pub joined-sound : Sound (set cs h c)
+    joined-sound = sound-set cs h l s c (λ e. n) joined-apart
+
+  -- their tree is the old one with the run taken, where the handle was free.
+  pub joined-tree : at cs h .live ≡ false → treeOf (setRun (c .k) (c .anchor) 0 (c .length) true (taken cs)) ≡ treeFor (set cs h c)
+  joined-tree e =
+      longer-tree cs h (c .k) (c .anchor) 0 (c .length) l (dead-runs (c .k) (c .anchor) (at cs h) e) c (live-runs c live) (omega arith)
+
 -- ---- a good schedule stays good
 pub good-tree : (s : Schedule) → Good s → s .tree .bytes ≡ treeOf (taken (s .connections))
 unfolding treeFor
@@ -177,11 +233,14 @@ pub good-sound : (s : Schedule) → Good s → Sound (s .connections)
 good-sound s good = sound-exactly (s .connections) .0 (good-connections s good)
 
 -- No handle past the schedule's end is live.
-pub live-below : (s : Schedule) → length (s .connections) ≡ handles → (h : ℕ) → isLive s h ≡ true → h < handles
-live-below s places h live =
-    by-cases (decLe handles h)
-    (λ l. absurd (false≢true (sym (ap (λ (c : Connection). c .live) (List·getD-eq-default (s .connections) nobody (omega (arith, places)))) ∙ live)))
+pub live-inside : (cs : List Connection) (h : ℕ) → at cs h .live ≡ true → h < length cs
+live-inside cs h live =
+    by-cases (decLe (length cs) h)
+    (λ l. absurd (false≢true (sym (ap (λ (c : Connection). c .live) (List·getD-eq-default cs nobody l)) ∙ live)))
     (λ l. omega arith)
+
+pub live-below : (s : Schedule) → length (s .connections) ≡ handles → (h : ℕ) → isLive s h ≡ true → h < handles
+live-below s places h live = omega (arith, places, live-inside (s .connections) h live)
 
 module _ (s : Schedule) (good : Good s) (h : ℕ) (below : h ≤ 63) where
   pub inside : h < length (s .connections)

@@ -4,21 +4,18 @@ use mathlib.Core.Bool.{Bool, true, false, not, _||_, false≢true}
 use mathlib.Core.Logic.{_≢_, _↔_}
 use mathlib.Core.List.{List}
 use mathlib.Core.Option.{Option, none, some, Option·getD}
-use Prim.Native.Nat.{ℕ, _+_, _-_, _*_, _%_, _^_, _<_, _≤_}
-use native.Mathlib.Nat.{mod-lt}
+use Prim.Native.Nat.{ℕ, _^_, _<_, _≤_}
 use native.Mathlib.Omega.{arith}
-use lib.Pow.{pow-pos}
 use lib.Dec.{ltb, eqb}
 use lib.ListN.{take}
-use borrow.Author.Tests.{le-ltb, ltb-true, ltb-false, ne-eqb, eqb-false, not-false}
+use borrow.Author.Tests.{le-ltb, ltb-false, ne-eqb, eqb-false, not-false}
 use Rattle.rules.specs.declared.Connection.{Connection}
 use Rattle.rules.specs.declared.Schedule.{Schedule}
 use Rattle.rules.specs.declared.Command.the-variants.{Admit}
 use Rattle.rules.specs.Below.{isNone}
-use Rattle.rules.specs.Time.{minusMod}
 use Rattle.rules.specs.Core.{isRange}
-use Rattle.rules.specs.Ownership.{largestK, at, belongs, owns, taken}
-use Rattle.rules.specs.Classes.{depth, runFree}
+use Rattle.rules.specs.Ownership.{largestK, owns, taken}
+use Rattle.rules.specs.Classes.{depth}
 use Rattle.rules.specs.Mirror.{mirrored}
 use Rattle.rules.specs.Good.{Good, FreeSlotsZero}
 use Rattle.rules.specs.Answers.{Outcome, refusing, ok}
@@ -27,12 +24,11 @@ use Rattle.rules.specs.Handles.{isLive, connection}
 use Rattle.rules.specs.Admit.{kIn, kFor, shareWrong, isOpen, firstOpen, newConnection, admitChecks, anchorFor, admitDone, admit}
 use Rattle.rules.specs.Obey.{singleFrom, obey}
 use Rattle.basics.proofs.BoolLaws.{neither, is-false}
-use Rattle.basics.proofs.BelowLaws.{every-at, every-of, least-some, least-none, least-is-none, is-some}
-use Rattle.blocks.proofs.EndlessTime.{minusMod-back}
+use Rattle.basics.proofs.BelowLaws.{least-some, least-none, least-is-none, is-some}
 use Rattle.blocks.proofs.MirrorLaws.{mirror-lt, mirror-mirror}
 use Rattle.rules.specs.Sound.{Numbers, soundConnections}
-use Rattle.blocks.proofs.SoundLaws.{class-free-ever, good-connections}
-use Rattle.blocks.proofs.ScheduleLaws.{others, others-at, set-good, set-zero, set-other, set-same, inside}
+use Rattle.blocks.proofs.SoundLaws.{good-connections}
+use Rattle.blocks.proofs.ScheduleLaws.{others, RunFreeEver, run-ever, joined-apart, good-sound, set-good, set-zero, set-other, set-same, inside}
 use Rattle.calls.proofs.RefusalLaws.{Passed, passed-take, decided-cases}
 use Rattle.calls.proofs.RangeLaws.{k-given, k-deep, k-unique, range-most}
 use Rattle.blocks.proofs.ClassLaws.{within-depth}
@@ -49,20 +45,10 @@ pub share-fits : (f c F : ℕ) → 1 ≤ f → f ≤ c → c ≤ F → shareWron
 share-fits f c F h l m = rw (ne-eqb f 0 (omega arith), le-ltb c f l, le-ltb F c m)
 
 -- ---- the anchor
--- The whole run of n blocks at A is free, in endless time.
-abbrev pub RunFreeEver : List Connection → ℕ → ℕ → ℕ → Type 0
-RunFreeEver cs k n A = (j : ℕ) → j < n → (b h : ℕ) → b % 2 ^ k ≡ (A + j) % 2 ^ k → owns (at cs h) b ≡ false
-
+-- An anchor is open exactly if its whole run is free, in endless time.
 pub open-ever : (cs : List Connection) (k n A : ℕ) → soundConnections cs ≡ true → k ≤ depth → (isOpen (taken cs) k n A ≡ true) ↔ RunFreeEver cs k n A
-unfolding isOpen runFree
-open-ever cs k n A s hk = (
-  λ e j l b h m. class-free-ever cs k ((A + j) % 2 ^ k) s hk (mod-lt (A + j) (pow-pos k)) .0 (every-at n _ e j l) b h m,
-  λ f. every-of n _ (λ j l. class-free-ever cs k ((A + j) % 2 ^ k) s hk (mod-lt (A + j) (pow-pos k)) .1 (λ b h m. f j l b h m)),
-)
-
--- A block that belongs to a run that is free belongs to nobody.
-pub open-nobody : (cs : List Connection) (k n A b h : ℕ) → RunFreeEver cs k n A → minusMod b A (2 ^ k) < n → owns (at cs h) b ≡ false
-open-nobody cs k n A b h f l = f (minusMod b A (2 ^ k)) l b h (sym (minusMod-back b A (2 ^ k) (pow-pos k)))
+unfolding isOpen
+open-ever = run-ever
 
 -- The first open anchor in node order: none before it is open.
 pub first-open : (f : ℕ → Bool) (k n p : ℕ) → firstOpen f k n ≡ some p → (p < 2 ^ k) × (isOpen f k n (mirrored k p) ≡ true) × ((q : ℕ) → q < p → isOpen f k n (mirrored k q) ≡ false)
@@ -78,6 +64,21 @@ none-open f k n e A l =
 pub open-none : (f : ℕ → Bool) (k n : ℕ) → ((A : ℕ) → A < 2 ^ k → isOpen f k n A ≡ false) → firstOpen f k n ≡ none
 unfolding firstOpen
 open-none f k n h = least-is-none (2 ^ k) (λ p. isOpen f k n (mirrored k p)) (λ p l. h (mirrored k p) (mirror-lt k p))
+
+-- So of sound connections: the first anchor in node order whose whole run is free, in endless time;
+module _ (cs : List Connection) (k n : ℕ) (s : soundConnections cs ≡ true) (hk : k ≤ depth) where
+  pub first-ever : (p : ℕ) → firstOpen (taken cs) k n ≡ some p
+      → (p < 2 ^ k) × RunFreeEver cs k n (mirrored k p) × ((q : ℕ) → q < p → RunFreeEver cs k n (mirrored k q) → ⊥)
+  first-ever p e =
+      let w = first-open (taken cs) k n p e in
+      (w .0, open-ever cs k n (mirrored k p) s hk .0 (w .1), λ q l r. false≢true (sym (w .2 q l) ∙ open-ever cs k n (mirrored k q) s hk .1 r))
+
+  -- none exactly if no anchor below F has its whole run free.
+  pub none-ever : (firstOpen (taken cs) k n ≡ none) ↔ ((A : ℕ) → A < 2 ^ k → RunFreeEver cs k n A → ⊥)
+  none-ever = (
+    λ e A l r. false≢true (sym (none-open (taken cs) k n e A l) ∙ open-ever cs k n A s hk .1 r),
+    λ x. open-none (taken cs) k n (λ A l. is-false (isOpen (taken cs) k n A) (λ t. x A l (open-ever cs k n A s hk .0 t))),
+  )
 
 -- ---- what follows k: the share is one of F, and an anchor is open
 pub record Placeable (s : Schedule) (k f c : ℕ) : Type 0 where
@@ -109,20 +110,20 @@ module _ (s : Schedule) (k f c : ℕ) (a : Placeable s k f c) where
         metered = omega arith;
       }
 
+  -- It is open:
+  anchor-open : isOpen (taken (s .connections)) k f (anchorFor s k f) ≡ true
+  anchor-open = ap (isOpen (taken (s .connections)) k f) anchor-given ∙ first-open (taken (s .connections)) k f (a .place .0) (a .place .1) .1
+
   module _ (good : Good s) where
-    -- Its run belonged to nobody before,
+    -- its run belonged to nobody before,
     pub anchor-free : RunFreeEver (s .connections) k f (anchorFor s k f)
-    anchor-free =
-        open-ever (s .connections) k f (anchorFor s k f) (good-connections s good) (within-depth (a .deep)) .0
-        (ap (isOpen (taken (s .connections)) k f) anchor-given ∙ first-open (taken (s .connections)) k f (a .place .0) (a .place .1) .1)
+    anchor-free = open-ever (s .connections) k f (anchorFor s k f) (good-connections s good) (within-depth (a .deep)) .0 anchor-open
 
     -- so to no handle but its own.
     pub new-apart : (h : ℕ) → h ≤ 63 → (b : ℕ) → owns (newConnection k (anchorFor s k f) f c) b ≡ true → others (s .connections) h b ≡ false
-    unfolding owns belongs
-    new-apart h l b e =
-        is-false (others (s .connections) h b) (λ t.
-        let w = others-at (s .connections) h (inside s good h l) b t in
-        false≢true (sym (open-nobody (s .connections) k f (anchorFor s k f) b (w .0) anchor-free (ltb-true _ f e)) ∙ w .2))
+    unfolding isOpen
+    new-apart h l =
+        joined-apart (s .connections) h (inside s good h l) (newConnection k (anchorFor s k f) f c) refl (good-sound s good) new-numbers anchor-open
 
 -- ---- an admission
 -- The checks before that of room pass, and the range gives k.

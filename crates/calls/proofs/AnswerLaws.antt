@@ -7,7 +7,7 @@ use native.Mathlib.Omega.{arith}
 use lib.Dec.{eqb, lit<}
 use lib.ListN.{getD}
 use Rattle.rules.specs.declared.Refusal.{Refusal}
-use Rattle.rules.specs.declared.Refusal.the-variants.{HandleAbove63, HandleLive, HandleNotLive, IntervalOutside, ShareWrong, NoOpenAnchor, SampleAboveRun, BufferShort, RecordsWrong, NumbersUnsound, BlockOwnedTwice, TreeDiffers, ReportsMany, ListShort, NoInterval, MessageWrong, ValuesForbidden, FactorIllegal}
+use Rattle.rules.specs.declared.Refusal.the-variants.{HandleAbove63, HandleLive, HandleNotLive, IntervalOutside, ShareWrong, NoOpenAnchor, SampleAboveRun, BufferShort, RecordsWrong, NumbersUnsound, BlockOwnedTwice, TreeDiffers, ReportsMany, ListShort, NoInterval, MessageWrong, ValuesForbidden, FactorIllegal, NoAnchorForAll}
 use Rattle.rules.specs.declared.Admission.{Admission}
 use Rattle.rules.specs.declared.Admission.the-variants.{Placed, Refused as AdmissionRefused}
 use Rattle.rules.specs.declared.Dropping.{Dropping}
@@ -29,14 +29,17 @@ use Rattle.rules.specs.declared.Reading.{Reading}
 use Rattle.rules.specs.declared.Reading.the-variants.{Is, Refused as ReadingRefused}
 use Rattle.rules.specs.declared.Writing.{Writing}
 use Rattle.rules.specs.declared.Writing.the-variants.{Size as WritingSize, Refused as WritingRefused}
+use Rattle.rules.specs.declared.Tidying.{Tidying}
+use Rattle.rules.specs.declared.Tidying.the-variants.{Count as TidyingCount, Refused as TidyingRefused}
 use Rattle.rules.specs.declared.Admitted.{Admitted}
 use Rattle.rules.specs.declared.Dropped.{Dropped}
 use Rattle.rules.specs.declared.Reported.{Reported}
 use Rattle.rules.specs.declared.ReportedAll.{ReportedAll}
 use Rattle.rules.specs.declared.Loaded.{Loaded}
+use Rattle.rules.specs.declared.Tidied.{Tidied}
 use Rattle.rules.specs.Refusals.{number}
 use Rattle.rules.specs.Messages.{valuesOf}
-use Rattle.rules.specs.Answers.{Answer, Outcome, Listed, refused, ok, dropped, kept, grown, shrunk, tight, owner, idle, slots, saved, loaded, reported, message, wrote, ofAdmission, ofDropping, ofReporting, ofReportingAll, ofOwnership, ofDistance, ofSaving, ofLoading, ofReading, ofWriting, ofAdmitted, ofDropped, ofReported, ofReportedAll, ofLoaded}
+use Rattle.rules.specs.Answers.{Answer, Outcome, Listed, refused, ok, dropped, kept, grown, shrunk, tight, owner, idle, slots, saved, loaded, reported, message, wrote, tidied, ofAdmission, ofDropping, ofReporting, ofReportingAll, ofOwnership, ofDistance, ofSaving, ofLoading, ofReading, ofWriting, ofTidying, ofAdmitted, ofDropped, ofReported, ofReportedAll, ofLoaded, ofTidied}
 use Rattle.calls.proofs.RefusalLaws.{refused-same}
 
 -- A function that can be undone takes no two values to one.
@@ -53,7 +56,7 @@ refusalOf n =
     (or SampleAboveRun (or BufferShort (or RecordsWrong
     (or NumbersUnsound (or BlockOwnedTwice (or TreeDiffers
     (or ReportsMany (or ListShort (or NoInterval
-    (or MessageWrong (or ValuesForbidden FactorIllegal))))))))))))))))
+    (or MessageWrong (or ValuesForbidden (or FactorIllegal NoAnchorForAll)))))))))))))))))
 
 refusal-back : (r : Refusal) → refusalOf (number r) ≡ r
 unfolding refusalOf
@@ -75,6 +78,7 @@ refusal-back NoInterval = refl
 refusal-back MessageWrong = refl
 refusal-back ValuesForbidden = refl
 refusal-back FactorIllegal = refl
+refusal-back NoAnchorForAll = refl
 
 pub number-injective : (a b : Refusal) → number a ≡ number b → a ≡ b
 number-injective a b e = undone number refusalOf refusal-back e
@@ -99,6 +103,7 @@ number-small NoInterval = lit< tt
 number-small MessageWrong = lit< tt
 number-small ValuesForbidden = lit< tt
 number-small FactorIllegal = lit< tt
+number-small NoAnchorForAll = lit< tt
 
 -- ---- the answers: a number for each of the sheet's words, and the values beside it
 word : Answer → ℕ
@@ -117,6 +122,7 @@ word (loaded n) = 11
 word (reported n) = 12
 word (message m) = 13
 word (wrote n) = 14
+word (tidied n) = 15
 
 unfoldable pub values : Answer → List ℕ
 values (refused n) = n ∷ []
@@ -134,6 +140,7 @@ values (loaded n) = n ∷ []
 values (reported n) = n ∷ []
 values (message m) = valuesOf m
 values (wrote n) = n ∷ []
+values (tidied n) = n ∷ []
 
 value : Answer → ℕ → ℕ
 unfolding values
@@ -229,6 +236,15 @@ unfolding writingOf
 writing-back (WritingSize n) = refl
 writing-back (WritingRefused r) = ap WritingRefused (refusal-back r)
 
+tidyingOf : Answer → Tidying
+unfolding word value refusalOf
+tidyingOf a = by-word a (TidyingRefused (refusalOf (value a 0))) (TidyingCount (value a 0))
+
+tidying-back : (a : Tidying) → tidyingOf (ofTidying a) ≡ a
+unfolding tidyingOf
+tidying-back (TidyingCount n) = refl
+tidying-back (TidyingRefused r) = ap TidyingRefused (refusal-back r)
+
 -- ---- so what a call's statement determines, it determines whole
 pub ownership-injective : (a b : Ownership) → ofOwnership a ≡ ofOwnership b → a ≡ b
 ownership-injective a b e = undone ofOwnership ownershipOf ownership-back e
@@ -270,15 +286,23 @@ reported-injective a b e =
     undone ofReported (λ (o : Outcome). record { answer = reportingOf (o .answer); schedule = o .schedule })
     (λ r. ap (λ (x : Reporting). record { answer = x; schedule = r .schedule }) (reporting-back (r .answer))) e
 
--- With the list that it filled.
-pub reported-all-injective : (a b : ReportedAll) (x y : List ℕ) → ofReportedAll a x ≡ ofReportedAll b y → (a ≡ b) × (x ≡ y)
-reported-all-injective a b x y e = (sym (back a x) ∙ ap read e ∙ back b y, ap (λ (o : Listed). o .list) e)
-  where
-    read : Listed → ReportedAll
-    read o = record { answer = reportingAllOf (o .answer); schedule = o .schedule }
+-- With the list that a call filled.
+listed : {R : Type 0} (of : R → List ℕ → Listed) (read : Listed → R) → ((r : R) (l : List ℕ) → (read (of r l) ≡ r) × (of r l .list ≡ l))
+    → (a b : R) (x y : List ℕ) → of a x ≡ of b y → (a ≡ b) × (x ≡ y)
+listed of read back a b x y e = (
+  sym (back a x .0) ∙ ap read e ∙ back b y .0,
+  sym (back a x .1) ∙ ap (λ (o : Listed). o .list) e ∙ back b y .1,
+)
 
-    back : (r : ReportedAll) (l : List ℕ) → read (ofReportedAll r l) ≡ r
-    back r l = ap (λ (z : ReportingAll). record { answer = z; schedule = r .schedule }) (reporting-all-back (r .answer))
+pub reported-all-injective : (a b : ReportedAll) (x y : List ℕ) → ofReportedAll a x ≡ ofReportedAll b y → (a ≡ b) × (x ≡ y)
+reported-all-injective =
+    listed ofReportedAll (λ o. record { answer = reportingAllOf (o .answer); schedule = o .schedule })
+    (λ r l. (ap (λ (z : ReportingAll). record { answer = z; schedule = r .schedule }) (reporting-all-back (r .answer)), refl))
+
+pub tidied-injective : (a b : Tidied) (x y : List ℕ) → ofTidied a x ≡ ofTidied b y → (a ≡ b) × (x ≡ y)
+tidied-injective =
+    listed ofTidied (λ o. record { answer = tidyingOf (o .answer); schedule = o .schedule })
+    (λ r l. (ap (λ (z : Tidying). record { answer = z; schedule = r .schedule }) (tidying-back (r .answer)), refl))
 
 pub loaded-injective : (a b : Loaded) → ofLoaded a ≡ ofLoaded b → a ≡ b
 loaded-injective a b e =

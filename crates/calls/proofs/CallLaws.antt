@@ -1,31 +1,33 @@
--- The laws of every call on a schedule that answers with one: admit, drop, report.
+-- The laws of every call on a schedule that answers with one: admit, drop, report, tidy.
 use mathlib.Core.Path.{_≡_, refl, sym, subst⁻¹}
 use mathlib.Core.Bool.{Bool}
 use mathlib.Core.List.{List}
 use Prim.Native.Nat.{ℕ}
 use native.Mathlib.Omega.{arith}
-use Rattle.rules.specs.declared.Refusal.{Refusal}
 use Rattle.rules.specs.declared.Schedule.{Schedule}
 use Rattle.rules.specs.declared.Connection.{Connection}
 use Rattle.rules.specs.Ownership.{taken}
 use Rattle.rules.specs.Handles.{connection}
 use Rattle.rules.specs.Good.{Good, FreeSlotsZero}
-use Rattle.rules.specs.Answers.{Answer, Outcome, Written, refused, refusing, refusingBuffer}
-use Rattle.rules.specs.Refusals.{number, Check, decided}
+use Rattle.rules.specs.Answers.{Answer, Outcome, Written, withoutList, refused, refusing, refusingBuffer}
+use Rattle.rules.specs.Refusals.{Check, decided}
 use Rattle.rules.specs.Admit.{kFor, admitChecks, admitDone, admit}
 use Rattle.rules.specs.Drop.{dropChecks, dropDone, dropHandle}
+use Rattle.rules.specs.Tidy.{tidy}
 use Rattle.rules.specs.Report.{roomToGrow, aim, reportAnswer, reportChecks, reportDone, report}
-use Rattle.calls.proofs.RefusalLaws.{decided-cases, decided-map, refused-same}
+use Rattle.calls.proofs.RefusalLaws.{InTable, decided-cases, decided-map, refused-same}
 use Rattle.calls.proofs.MeterLaws.{change-cases}
 use Rattle.calls.proofs.AdmitLaws.{admit-cases, admit-good, admit-zero}
 use Rattle.calls.proofs.DropLaws.{drop-cases, drop-good, drop-zero}
 use Rattle.calls.proofs.ReportLaws.{report-cases, report-good, report-zero}
+use Rattle.calls.proofs.TidyLaws.{tidy-good, tidy-zero, tidy-refusal-listed}
 
 -- What each of these calls leaves of a schedule.
 pub data Leaves (s : Schedule) : Outcome → Type 0 where
   admits : (h lo hi f c : ℕ) → Leaves s (admit s h lo hi f c)
   drops : (h : ℕ) → Leaves s (dropHandle s h)
   reports : (h sample : ℕ) → Leaves s (report s h sample)
+  tidies : (list : List ℕ) → Leaves s (withoutList (tidy s list))
 
 -- A rule that keeps the schedule where its answer is a refusal.
 abbrev Keeps : Schedule → Outcome → Type 0
@@ -40,10 +42,6 @@ answered f c sample n =
     (λ l e. let z : _≡_ {A = ℕ} 0 1 = cc in omega arith)
     (λ l q e. let z : _≡_ {A = ℕ} 0 1 = cc in omega arith)
     (λ l q e. let z : _≡_ {A = ℕ} 0 1 = cc in omega arith)
-
--- "one number from the rule sheet's table": that of a named refusal.
-abbrev pub InTable : ℕ → Type 0
-InTable n = (why : Refusal) × (n ≡ number why)
 
 -- What answers with a number of the table, where it refuses.
 abbrev pub Tabled : Answer → Type 0
@@ -72,6 +70,7 @@ refusal-in-table s (drops h) =
     tabled-outcome (dropChecks s h) s (dropDone s h) (λ n e. let z : _≡_ {A = ℕ} 0 1 = cc in absurd (omega arith))
 refusal-in-table s (reports h sample) =
     tabled-outcome (reportChecks s h sample) s (reportDone s h sample) (λ n e. absurd (answered (taken (s .connections)) (connection s h) sample n e))
+refusal-in-table s (tidies list) = λ n e. tidy-refusal-listed s list n e .0
 
 -- "A refusal returns its number only; the schedule .. as .. before the call."
 pub refusal-keeps-schedule : (s : Schedule) {o : Outcome} → Leaves s o → (n : ℕ) → o .answer ≡ refused n → o .schedule ≡ s
@@ -81,15 +80,18 @@ refusal-keeps-schedule s (admits h lo hi f c) =
 refusal-keeps-schedule s (drops h) =
     drop-cases s h (Keeps s) (λ m n e. refl) (λ p q n e. let z : _≡_ {A = ℕ} 0 1 = cc in absurd (omega arith))
 refusal-keeps-schedule s (reports h sample) = report-cases s h sample (Keeps s) (λ m n e. refl) (λ r n e. absurd (answered (taken (s .connections)) (connection s h) sample n e))
+refusal-keeps-schedule s (tidies list) = λ n e. tidy-refusal-listed s list n e .1
 
 -- "what each call leaves [is] shown to be so": good.
 pub call-good : (s : Schedule) → Good s → {o : Outcome} → Leaves s o → Good (o .schedule)
 call-good s good (admits h lo hi f c) = admit-good s good h lo hi f c
 call-good s good (drops h) = drop-good s good h
 call-good s good (reports h sample) = report-good s good h sample
+call-good s good (tidies list) = tidy-good s good list
 
 -- Free slots stay zeros.
 pub call-zero : (s : Schedule) → Good s → FreeSlotsZero s → {o : Outcome} → Leaves s o → FreeSlotsZero (o .schedule)
 call-zero s good z (admits h lo hi f c) = admit-zero s good h lo hi f c z
 call-zero s good z (drops h) = drop-zero s good h z
 call-zero s good z (reports h sample) = report-zero s good h sample z
+call-zero s good z (tidies list) = tidy-zero s good list z

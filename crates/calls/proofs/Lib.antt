@@ -4,6 +4,7 @@ pub mod AnswerLaws
 pub mod FactorLaws
 pub mod RangeLaws
 pub mod AdmitLaws
+pub mod ArrangeLaws
 pub mod DropLaws
 pub mod MeterLaws
 pub mod ReportLaws
@@ -11,6 +12,9 @@ pub mod QuestionLaws
 pub mod RoomLaws
 pub mod LiveLaws
 pub mod EachLaws
+pub mod AlikeLaws
+pub mod MoveLaws
+pub mod TidyLaws
 pub mod CallLaws
 pub mod ReportsLaws
 pub mod AloneLaws

@@ -14,6 +14,10 @@ use Rattle.rules.specs.Refusals.{number, Check, decided}
 use Rattle.rules.specs.Answers.{Answer, Outcome, refused, refusing}
 use Rattle.basics.proofs.BoolLaws.{both}
 
+-- "one number from the rule sheet's table": that of a named refusal.
+abbrev pub InTable : ℕ → Type 0
+InTable n = (why : Refusal) × (n ≡ number why)
+
 -- No check refuses.
 abbrev pub Passed : List Check → Type 0
 Passed [] = Unit {0}
@@ -153,10 +157,15 @@ first-at (c ∷ cs) (suc i) other d l =
       λ w. inr (w .0 .0, r .1 (w .0 .1, w .1)),
     )
 
--- So a call is refused with the number of check i exactly if it refuses and those before it pass; `other` is what a list gives past its end.
+-- So what the checks decide is a refusal with the number of check i exactly if it refuses and those before it pass; `other` is what a list gives past its end.
+pub refused-at : (cs : List Check) (answer done : Answer) → answer ≡ decided cs refused done → ((n : ℕ) → done ≡ refused n → ⊥) → distinct cs ≡ true → (i : ℕ) (other : Check)
+    → i < length cs → (answer ≡ refused (number (getD cs i other .why))) ↔ (Passed (take i cs) × (getD cs i other .refuses ≡ true))
+refused-at cs answer done e never d i other l =
+    let r = refused-exactly cs done never (number (getD cs i other .why)) in
+    let q = first-at cs i other d l in
+    (λ x. q .0 (r .0 (sym e ∙ x)), λ w. e ∙ r .1 (q .1 w))
+
+-- The same of a call that answers with a schedule.
 pub refusing-at : (cs : List Check) (s : Schedule) (done : Outcome) → ((n : ℕ) → done .answer ≡ refused n → ⊥) → distinct cs ≡ true → (i : ℕ) (other : Check) → i < length cs
     → (decided cs (refusing s) done .answer ≡ refused (number (getD cs i other .why))) ↔ (Passed (take i cs) × (getD cs i other .refuses ≡ true))
-refusing-at cs s done never d i other l =
-    let r = refusing-exactly cs s done never (number (getD cs i other .why)) in
-    let q = first-at cs i other d l in
-    (λ e. q .0 (r .0 e), λ w. r .1 (q .1 w))
+refusing-at cs s done = refused-at cs (decided cs (refusing s) done .answer) (done .answer) (decided-map (λ (o : Outcome). o .answer) cs (refusing s) done)

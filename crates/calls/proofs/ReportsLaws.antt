@@ -24,12 +24,11 @@ use Rattle.rules.specs.Report.{roomToGrow, metered, aim, reportAnswer, reportDo
 use Rattle.rules.specs.Reports.{single, afterReports, answersTo, Among, here, later, coded, mostReports, reportsChecks, reportsDone, reportAll}
 use Rattle.basics.proofs.LentLaws.{over-new, over-old, over-length}
 use Rattle.blocks.proofs.ClassLaws.{within-depth}
-use Rattle.calls.proofs.RefusalLaws.{decided-cases, decided-first, decided-passed, refused-same}
+use Rattle.calls.proofs.RefusalLaws.{InTable, decided-cases, decided-first, decided-passed, refused-same}
 use Rattle.calls.proofs.MeterLaws.{change-cases}
 use Rattle.calls.proofs.AnswerLaws.{number-small}
 use Rattle.calls.proofs.ReportLaws.{Metered, report-cases, old-numbers, report-good, report-zero, report-own}
 use Rattle.calls.proofs.LiveLaws.{report-lives}
-use Rattle.calls.proofs.CallLaws.{InTable}
 
 -- ---- one after the other
 -- The reports of xs ++ ys are those of xs and then those of ys: the schedule,

@@ -1,28 +1,25 @@
 -- "A new connection is refused for room exactly when no anchor exists whose whole run is free."
 use mathlib.Core.Path.{_≡_, refl, sym, ap, subst, _∙_}
-use mathlib.Core.Bool.{true, false, not, false≢true}
+use mathlib.Core.Bool.{true}
 use mathlib.Core.Logic.{_↔_}
-use mathlib.Core.Option.{Option, none, some, Option·getD}
+use mathlib.Core.Option.{Option, none, some}
 use Prim.Native.Nat.{ℕ, _^_, _<_, _≤_}
 use native.Mathlib.Omega.{arith}
-use borrow.Author.Tests.{le-ltb, ltb-false, not-false}
 use Rattle.rules.specs.declared.Schedule.{Schedule}
 use Rattle.rules.specs.declared.Refusal.the-variants.{NoOpenAnchor}
 use Rattle.rules.specs.Below.{isNone}
-use Rattle.rules.specs.Core.{isRange}
 use Rattle.rules.specs.Ownership.{largestK, taken}
 use Rattle.rules.specs.Mirror.{mirrored}
 use Rattle.rules.specs.Good.{Good}
 use Rattle.rules.specs.Refusals.{number, check}
 use Rattle.rules.specs.Answers.{Outcome, refused, refusing, ok}
-use Rattle.rules.specs.Handles.{isLive}
-use Rattle.rules.specs.Admit.{kIn, kFor, shareWrong, isOpen, firstOpen, admitChecks, anchorFor, admitDone, admit}
-use Rattle.basics.proofs.BoolLaws.{is-false}
-use Rattle.basics.proofs.BelowLaws.{is-none, is-some}
+use Rattle.rules.specs.Admit.{kFor, firstOpen, admitChecks, anchorFor, admitDone, admit}
+use Rattle.basics.proofs.BelowLaws.{is-none}
 use Rattle.calls.proofs.RefusalLaws.{passed-both, decided-passed}
 use Rattle.calls.proofs.RangeLaws.{k-given, k-deep, k-unique, admit-refused-at}
 use Rattle.blocks.proofs.MirrorLaws.{mirror-mirror}
-use Rattle.calls.proofs.AdmitLaws.{RunFreeEver, open-ever, none-open, open-none, Placeable, Reached, reached, passed, admit-cases, anchor-given, anchor-small, anchor-free, first-open}
+use Rattle.blocks.proofs.ScheduleLaws.{RunFreeEver}
+use Rattle.calls.proofs.AdmitLaws.{first-ever, none-ever, Placeable, Reached, reached, passed, admit-cases, anchor-given, anchor-small, anchor-free}
 use Rattle.blocks.proofs.ClassLaws.{within-depth}
 use Rattle.blocks.proofs.SoundLaws.{good-connections}
 
@@ -33,14 +30,8 @@ pub record NoRoom (s : Schedule) (h lo hi f c : ℕ) : Type 0 where
   pub shut : (A : ℕ) → A < 2 ^ k → RunFreeEver (s .connections) k f A → ⊥
 
 module _ (s : Schedule) (good : Good s) (k : ℕ) (deep : k ≤ largestK) (f : ℕ) where
-  shut-none : firstOpen (taken (s .connections)) k f ≡ none → (A : ℕ) → A < 2 ^ k → RunFreeEver (s .connections) k f A → ⊥
-  shut-none e A l r =
-      false≢true (sym (none-open (taken (s .connections)) k f e A l) ∙ open-ever (s .connections) k f A (good-connections s good) (within-depth deep) .1 r)
-
-  none-shut : ((A : ℕ) → A < 2 ^ k → RunFreeEver (s .connections) k f A → ⊥) → firstOpen (taken (s .connections)) k f ≡ none
-  none-shut x =
-      open-none (taken (s .connections)) k f (λ A l.
-      is-false (isOpen (taken (s .connections)) k f A) (λ t. x A l (open-ever (s .connections) k f A (good-connections s good) (within-depth deep) .0 t)))
+  none-shut : (firstOpen (taken (s .connections)) k f ≡ none) ↔ ((A : ℕ) → A < 2 ^ k → RunFreeEver (s .connections) k f A → ⊥)
+  none-shut = none-ever (s .connections) k f (good-connections s good) (within-depth deep)
 
 module _ (s : Schedule) (good : Good s) (h lo hi f c : ℕ) where
   pub no-room-exactly : (admit s h lo hi f c .answer ≡ refused (number NoOpenAnchor)) ↔ NoRoom s h lo hi f c
@@ -54,11 +45,11 @@ module _ (s : Schedule) (good : Good s) (h lo hi f c : ℕ) where
             record {
               k = g .0;
               reached = g .1;
-              shut = shut-none s good (g .0) (k-deep lo hi (g .0) given) f (is-none _ (rw (k-given lo hi (g .0) given) at (w .1)));
+              shut = none-shut s good (g .0) (k-deep lo hi (g .0) given) f .0 (is-none _ (rw (k-given lo hi (g .0) given) at (w .1)));
             },
         λ n.
             let given = n .reached .given in
-            r .1 (passed s h lo hi f c (n .k) (n .reached), rw (k-given lo hi (n .k) given) (ap isNone (none-shut s good (n .k) (k-deep lo hi (n .k) given) f (n .shut)))),
+            r .1 (passed s h lo hi f c (n .k) (n .reached), rw (k-given lo hi (n .k) given) (ap isNone (none-shut s good (n .k) (k-deep lo hi (n .k) given) f .1 (n .shut)))),
       )
 
 -- Where it is reached, it is accepted exactly if some anchor has its whole run free.
@@ -68,7 +59,7 @@ module _ (s : Schedule) (good : Good s) (h lo hi f c k : ℕ) (r : Reached s h l
 
   placed : (o : Option ℕ) → firstOpen (taken (s .connections)) k f ≡ o → ((A : ℕ) × (A < 2 ^ k) × RunFreeEver (s .connections) k f A) → Accepted (admit s h lo hi f c)
   unfolding admit admitChecks admitDone
-  placed none e w = absurd (shut-none s good k (k-deep lo hi k (r .given)) f e (w .0) (w .1) (w .2))
+  placed none e w = absurd (none-shut s good k (k-deep lo hi k (r .given)) f .0 e (w .0) (w .1) (w .2))
   placed (some p) e w =
       let checks = admitChecks s h lo hi f c in
       let done =
@@ -92,7 +83,6 @@ module _ (s : Schedule) (good : Good s) (h lo hi f c k : ℕ) (r : Reached s h l
 pub anchor-first : (s : Schedule) → Good s → (k f c : ℕ) → Placeable s k f c
     → (A : ℕ) → A < 2 ^ k → mirrored k A < mirrored k (anchorFor s k f) → RunFreeEver (s .connections) k f A → ⊥
 anchor-first s good k f c a A l m r =
-    let w = first-open (taken (s .connections)) k f (a .place .0) (a .place .1) in
+    let w = first-ever (s .connections) k f (good-connections s good) (within-depth (a .deep)) (a .place .0) (a .place .1) in
     let p : mirrored k (anchorFor s k f) ≡ a .place .0 = ap (mirrored k) (anchor-given s k f c a) ∙ mirror-mirror k (a .place .0) (w .0) in
-    let q : isOpen (taken (s .connections)) k f A ≡ false = ap (isOpen (taken (s .connections)) k f) (sym (mirror-mirror k A l)) ∙ w .2 (mirrored k A) (omega arith) in
-    false≢true (sym q ∙ open-ever (s .connections) k f A (good-connections s good) (within-depth (a .deep)) .1 r)
+    w .2 (mirrored k A) (omega arith) (subst (RunFreeEver (s .connections) k f) (sym (mirror-mirror k A l)) r)

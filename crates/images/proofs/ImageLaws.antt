@@ -27,6 +27,7 @@ use Rattle.basics.proofs.BoolLaws.{both}
 use Rattle.basics.proofs.BelowLaws.{any-ext}
 use Rattle.blocks.proofs.TreeLaws.{tree-sized, tree-ext}
 use Rattle.blocks.proofs.SoundLaws.{numbers-sound, all-sound-at, connected-good}
+use Rattle.blocks.proofs.ScheduleLaws.{at-free}
 use Rattle.calls.proofs.RefusalLaws.{Passed, decided-cases, decided-passed}
 use Rattle.calls.proofs.EachLaws.{liveCount, count-most, each-count}
 use Rattle.basics.proofs.BytesLaws.{AllBytes, bytes-append, little-bytes, little-number, number-little, same-exactly}
@@ -495,11 +496,6 @@ pub load-good : (s : Schedule) → Good s → (bytes : List ℕ) → AllBytes by
 load-good s good bytes b = load-cases s bytes b (λ o. Good (o .schedule)) (λ n. good) (λ cs n r. connected-good fresh cs (r .long) (r .isSound))
 
 -- ---- free slots stay zeros
-pub at-free : (n h : ℕ) → at (replicate n nobody) h ≡ nobody
-at-free zero h = refl
-at-free (suc n) zero = refl
-at-free (suc n) (suc h) = at-free n h
-
 set-zeros : (cs : List Connection) (g : ℕ) (c : Connection) → c .live ≡ true → ((h : ℕ) → at cs h .live ≡ false → at cs h ≡ nobody)
     → (h : ℕ) → at (set cs g c) h .live ≡ false → at (set cs g c) h ≡ nobody
 set-zeros [] g c l z h e = refl

@@ -7,19 +7,18 @@ use Prim.Native.Nat.{ℕ, zero, suc, _+_, _%_, _^_, _<_, _≤_}
 use native.Mathlib.Decide.{ℕ-discrete}
 use native.Mathlib.Omega.{arith}
 use lib.Pow.{pow-pos}
-use lib.ListN.{length, take, set, replicate, length-set, length-replicate}
+use lib.ListN.{length, take, set, length-set, length-replicate}
 use lib.Seq.{take-suc, set-comm}
 use lib.Dec.{ltb}
 use borrow.Author.Tests.{lt-ltb, ltb-true}
 use Rattle.rules.specs.declared.Connection.{Connection}
 use Rattle.rules.specs.Time.{minusMod}
-use Rattle.rules.specs.Ownership.{handles, largestK, nobody, at, owns, taken}
+use Rattle.rules.specs.Ownership.{handles, largestK, nobody, freeSlots, at, owns, taken}
 use Rattle.rules.specs.Classes.{runFree}
 use Rattle.blocks.specs.Taking.{setRun}
 use Rattle.rules.specs.TreeBytes.{treeOf}
 use Rattle.rules.specs.Sound.{soundNumbers, allSound, apart, soundConnections, Numbers}
 use Rattle.rules.specs.Good.{treeFor}
-use Rattle.rules.specs.Admit.{isOpen}
 use Rattle.rules.specs.Records.{Piece}
 use Rattle.rules.specs.Fields.{handleIn, connectionIn}
 use Rattle.rules.specs.Load.{allNumbersWithin, rising, recordsWithin, atHandles}
@@ -27,10 +26,8 @@ use Rattle.basics.proofs.BoolLaws.{both, is-false}
 use Rattle.blocks.proofs.ClassLaws.{within-depth}
 use Rattle.blocks.proofs.EndlessTime.{minusMod-only}
 use Rattle.blocks.proofs.SoundLaws.{numbers-sound, Sound, sound-exactly, all-sound-of}
-use Rattle.blocks.proofs.ScheduleLaws.{nobody-owns, at-same, at-other, others, others-at, sound-set, live-runs, dead-runs, longer-tree}
-use Rattle.calls.proofs.AdmitLaws.{RunFreeEver, open-ever, open-nobody}
+use Rattle.blocks.proofs.ScheduleLaws.{at-free, nobody-owns, free-sound, at-same, at-other, live-runs, RunFreeEver, run-ever, joined-sound, joined-tree}
 use Rattle.images.proofs.RisingLaws.{soundFrom, sound-from, rising-exactly}
-use Rattle.images.proofs.ImageLaws.{at-free}
 use Rattle.images.proofs.PieceLaws.{nth}
 
 -- ---- what the records restore
@@ -157,19 +154,13 @@ module _ (xs : List Piece) (r : Piece) (e : recordsWithin largestK (xs ++ (r ∷
 
     -- Its run is free: the whole is apart.
     pub run-apart : runFree (taken (atHandles xs)) (connectionIn r .k) (connectionIn r .anchor) (connectionIn r .length) ≡ true → apart (atHandles (xs ++ (r ∷ []))) ≡ true
-    unfolding isOpen connectionIn
+    unfolding connectionIn
     run-apart f =
-        let c = connectionIn r in
-        let ever = open-ever (atHandles xs) (c .k) (c .length) (c .anchor) sound-still (within-depth (numbers-here .deep)) .0 f in
-        let s = sound-set (atHandles xs) (handleIn r) inside (sound-exactly (atHandles xs) .0 sound-still) c (λ l. numbers-here)
-        (λ b o. is-false (others (atHandles xs) (handleIn r) b) (λ t.
-        let w = others-at (atHandles xs) (handleIn r) inside b t in
-        false≢true (sym (open-nobody (atHandles xs) (c .k) (c .length) (c .anchor) b (w .0) ever (ltb-true _ _ (sym (live-runs c refl b) ∙ o))) ∙ w .2))) in
-        sym (sound-apart (xs ++ (r ∷ [])) e) ∙ ap soundConnections placed-here ∙ sound-exactly (set (atHandles xs) (handleIn r) c) .1 s
+        let s = joined-sound (atHandles xs) (handleIn r) inside (connectionIn r) refl (sound-exactly (atHandles xs) .0 sound-still) numbers-here f in
+        sym (sound-apart (xs ++ (r ∷ [])) e) ∙ ap soundConnections placed-here ∙ sound-exactly (set (atHandles xs) (handleIn r) (connectionIn r)) .1 s
 
     -- Its run is not free: the whole is not apart.
     pub run-clash : runFree (taken (atHandles xs)) (connectionIn r .k) (connectionIn r .anchor) (connectionIn r .length) ≡ false → apart (atHandles (xs ++ (r ∷ []))) ≡ false
-    unfolding isOpen
     run-clash f =
         let c = connectionIn r in
         is-false (apart (atHandles (xs ++ (r ∷ [])))) (λ w.
@@ -178,16 +169,13 @@ module _ (xs : List Piece) (r : Piece) (e : recordsWithin largestK (xs ++ (r ∷
         λ j l b h m.
         is-false (owns (at (atHandles xs) h) b) (λ o.
         owner-other h b o (s .apart-ever b h (handleIn r) (owner-still h b o) (owns-here j b l m))) in
-        false≢true (sym f ∙ open-ever (atHandles xs) (c .k) (c .length) (c .anchor) sound-still (within-depth (numbers-here .deep)) .1 ever))
+        false≢true (sym f ∙ run-ever (atHandles xs) (c .k) (c .length) (c .anchor) sound-still (within-depth (numbers-here .deep)) .1 ever))
 
   -- The tree with its run is that of the whole.
   pub run-tree : treeOf (setRun (connectionIn r .k) (connectionIn r .anchor) 0 (connectionIn r .length) true (taken (atHandles xs))) ≡ treeFor (atHandles (xs ++ (r ∷ [])))
   unfolding connectionIn
   run-tree =
-      let c = connectionIn r in
-      longer-tree (atHandles xs) (handleIn r) (c .k) (c .anchor) 0 (c .length) inside
-      (dead-runs (c .k) (c .anchor) (at (atHandles xs) (handleIn r)) (ap (λ (x : Connection). x .live) (one-more .unused))) c (live-runs c refl) (omega arith)
-      ∙ ap treeFor (sym placed-here)
+      joined-tree (atHandles xs) (handleIn r) inside (connectionIn r) refl (ap (λ (x : Connection). x .live) (one-more .unused)) ∙ ap treeFor (sym placed-here)
 
 -- ---- the first i of the records
 sound-first-from : (h : ℕ) (rs : List Piece) (i : ℕ) → soundFrom largestK h rs ≡ true → soundFrom largestK h (take i rs) ≡ true
@@ -220,10 +208,5 @@ module _ (rs : List Piece) (e : recordsWithin largestK rs ≡ true) where
 
 -- ---- no record
 pub apart-none : apart (atHandles []) ≡ true
-unfolding soundConnections atHandles allNumbersWithin
-apart-none =
-    let s : Sound (replicate handles nobody) = record {
-      numbers = restored-numbers [] refl;
-      apart-ever = λ b i j x y. absurd (false≢true (sym (ap (λ (c : Connection). owns c b) (at-free handles i) ∙ nobody-owns b) ∙ x));
-    } in
-    both (allSound (replicate handles nobody)) (apart (replicate handles nobody)) (sound-exactly (replicate handles nobody) .1 s) .1
+unfolding soundConnections atHandles
+apart-none = both (allSound freeSlots) (apart freeSlots) (sound-exactly freeSlots .1 (free-sound handles)) .1

@@ -15,8 +15,8 @@ use Rattle.rules.specs.Messages.{messageBytes, subratesAt, messageIn}
 use Rattle.rules.specs.ReadMessage.{messageFor, readChecks, readMessage}
 use Rattle.basics.proofs.BytesLaws.{AllBytes}
 use Rattle.messages.specs.Fitting.{Fits}
-use Rattle.calls.proofs.RefusalLaws.{decided-passed, decided-first, refused-same}
-use Rattle.calls.proofs.CallLaws.{InTable, tabled}
+use Rattle.calls.proofs.RefusalLaws.{InTable, decided-passed, decided-first, refused-same}
+use Rattle.calls.proofs.CallLaws.{tabled}
 use Rattle.messages.proofs.MessageLaws.{Formed, formedAs, message-formed, message-bytes, formed-written, formed-fits, message-in, message-none, message-read, message-only, unformed, bytes-injective}
 
 -- ---- the three answers

@@ -17,8 +17,8 @@ use Rattle.rules.specs.Messages.{messageBytes}
 use Rattle.rules.specs.ReadMessage.{readMessage}
 use Rattle.rules.specs.WriteMessage.{writeChecks, writeDone, writeMessage}
 use Rattle.messages.specs.Fitting.{FailedFits}
-use Rattle.calls.proofs.RefusalLaws.{decided-passed, decided-first, refused-same}
-use Rattle.calls.proofs.CallLaws.{InTable, refusal-keeps-buffer}
+use Rattle.calls.proofs.RefusalLaws.{InTable, decided-passed, decided-first, refused-same}
+use Rattle.calls.proofs.CallLaws.{refusal-keeps-buffer}
 use Rattle.messages.proofs.AllowedLaws.{allowed-fits}
 use Rattle.messages.proofs.ReadLaws.{read-exactly}
 
