@@ -8,8 +8,10 @@ use native.Mathlib.Nat.{mod-lt, mod-eq-of-lt, mod-add-mod, pow-suc}
 use native.Mathlib.Decide.{ℕ-discrete, decLt}
 use native.Mathlib.Omega.{arith}
 use lib.Pow.{pow-pos, pow-mono}
+use lib.Dec.{eqb}
 use lib.ListN.{length, getD, set, length-set}
 use lib.Seq.{getD-set-same, getD-set-other}
+use borrow.Author.Tests.{eqb-true, eqb-false}
 use Rattle.rules.specs.declared.Refusal.the-variants.{NoOpenAnchor}
 use Rattle.rules.specs.Ownership.{largestK}
 use Rattle.rules.specs.Classes.{classTaken, free, runFree, depth}
@@ -23,7 +25,7 @@ use Rattle.basics.proofs.BoolLaws.{is-false}
 use Rattle.basics.proofs.BelowLaws.{every-at, every-of, least-is, least-is-none}
 use Rattle.blocks.proofs.MirrorLaws.{mirror-lt, mirror-mirror, mirror-by-half, mirror-zero}
 use Rattle.blocks.proofs.TreeLaws.{tree-class}
-use Rattle.place.specs.Promises.{rowClasses, Anchors, Stretches, Measures}
+use Rattle.place.specs.Promises.{rowClasses, Anchors, Stretches, Measures, Lengthens}
 
 -- The run at A is free up to its block n.
 abbrev pub Clear : (ℕ → Bool) → ℕ → ℕ → ℕ → Type 0
@@ -221,4 +223,19 @@ measured-all k n tree room hk r f e =
       clear = λ A i l h.
           let w = r .clear A i (omega arith) l h in
           (w .0, sym (shows (A + i) (w .0)) ∙ w .1);
+    }
+
+-- By a row: a class is taken where it has 0.
+abbrev pub marked : List ℕ → ℕ → Bool
+marked row A = eqb (getD row A 0) 0
+
+pub lengthened-all : (k n : ℕ) (row room : List ℕ) → MeasuredFrom k 0 n (marked row) room → Lengthens k row room
+lengthened-all k n row room r f m =
+    record {
+      shut = λ A l z. m .shut A l (eqb-true (getD row A 0) 0 (r .shut A (omega arith) l z));
+      clear = λ A i l h.
+          let w = r .clear A i (omega arith) l h in
+          let d = eqb-false (getD row (A + i) 0) 0 (w .1) in
+          let e : A + i + 0 ≡ A + i = omega arith in
+          (w .0, ap (classTaken f k) (sym e) ∙ m .clear (A + i) 0 (w .0) (omega arith) .1);
     }

@@ -30,6 +30,10 @@ pub record Stretches (k : ℕ) (taken : ℕ → Bool) (room : List ℕ) : Type 0
 abbrev pub Measures : ℕ → List ℕ → List ℕ → Type 0
 Measures k tree room = (taken : ℕ → Bool) → tree ≡ treeOf taken → Stretches k taken room
 
+-- Of what the one row has stretches of the other has, too.
+abbrev pub Lengthens : ℕ → List ℕ → List ℕ → Type 0
+Lengthens k row room = (taken : ℕ → Bool) → Stretches k taken row → Stretches k taken room
+
 -- The stretches of what some test says is taken.
 abbrev pub IsRoom : ℕ → List ℕ → Type 0
 IsRoom k room = (taken : ℕ → Bool) × Stretches k taken room

@@ -5,7 +5,7 @@ ghost use lib.ListN.{length};
 ghost use Rattle.rules.specs.Ownership.{largestK};
 ghost use Rattle.place.specs.Steps.{ofInterval, ofSmallest, ofRange, ofShare, intervalStep, smallestStep, rangeStep, shareStep};
 ghost use Rattle.tree.specs.Promises.{IsTree};
-ghost use Rattle.place.specs.Promises.{rowClasses, Anchors, Measures, IsRoom, Searches, FindsFirst, Plans};
+ghost use Rattle.place.specs.Promises.{rowClasses, Anchors, Measures, Lengthens, IsRoom, Searches, FindsFirst, Plans};
 use rules::BLOCK_SLOTS;
 use rules::Interval;
 use rules::LARGEST_K;
@@ -20,8 +20,11 @@ use rules::TREE_BYTES;
 use run::class_at;
 use run::factor;
 
-// A row of the search has a place for each class of the largest factor.
-const ROW_CLASSES: usize = 1 << LARGEST_K;
+/// A row of the search has a place for each class of the largest factor.
+pub const ROW_CLASSES: usize = 1 << LARGEST_K;
+
+// So many blocks of a run are looked for one by one in a row.
+const SHORT_RUN: u32 = 16;
 
 // The largest k, up to that of a connection, with 6 × 2^k not above the largest interval.
 fn k_of(largest: u32) -> Interval
@@ -80,9 +83,9 @@ fn share_of(floor: u32, ceiling: u32, f: u32) -> Share
     Share::Fits
 }
 
-// The anchors of a depth in node order. Those of places 2p and 2p + 1 are that of p, moved down a bit, without the highest
-// bit and with it.
-fn list_anchors(k: u32, anchors: &mut [u16; ROW_CLASSES])
+/// The anchors of a depth in node order. Those of places 2p and 2p + 1 are that of p, moved down a bit, without the highest
+/// bit and with it.
+pub fn list_anchors(k: u32, anchors: &mut [u16; ROW_CLASSES])
     requires { ⌜ (k ≤ largestK) × (length (now anchors) ≡ rowClasses) ⌝ }
     ensures { λ _. ⌜ Anchors k (now (anchors .exit)) ⌝ }
 {
@@ -129,13 +132,16 @@ fn wide(classes: u16) -> u32
 
 // The first anchor in node order whose whole run is free; a run is passed by its stretches of free classes.
 fn search(room: &[u16; ROW_CLASSES], anchors: &[u16; ROW_CLASSES], k: u32, floor: u32) -> Place
-    requires { ⌜ (k ≤ largestK) × (floor ≤ 2 ^ k) × Anchors k (now anchors) × IsRoom k (now room) ⌝ }
+    requires { ⌜ (k ≤ largestK) × (1 ≤ floor) × (floor ≤ 2 ^ k) × Anchors k (now anchors) × IsRoom k (now room) ⌝ }
     ensures { λ r. ⌜ Searches k floor (now (room .entry)) r ⌝ }
 {
     let f = factor(k);
     'nodes: for p in 0..f {
         let a = anchors[p as usize];
-        let mut j: u32 = 0;
+        let mut j = wide(room[a as usize]);
+        if j == 0 {
+            continue 'nodes;
+        }
         while j < floor {
             let free = wide(room[class_at(k, a as u32, j) as usize]);
             if free == 0 {
@@ -148,9 +154,47 @@ fn search(room: &[u16; ROW_CLASSES], anchors: &[u16; ROW_CLASSES], k: u32, floor
     Place::Nowhere
 }
 
+// The same of a row that says of each class no more than whether it is free.
+fn lengthen(row: &[u16; ROW_CLASSES], k: u32, room: &mut [u16; ROW_CLASSES])
+    requires { ⌜ (k ≤ largestK) × (length (now room) ≡ rowClasses) ⌝ }
+    ensures { λ _. ⌜ Lengthens k (now (row .entry)) (now (room .exit)) ⌝ }
+{
+    let f = factor(k) as usize;
+    let mut c = f;
+    let mut free: u16 = 0;
+    while 0 < c {
+        c -= 1;
+        if row[c] == 0 {
+            free = 0;
+        } else {
+            free += 1;
+        }
+        room[c] = free;
+    }
+}
+
+/// The first anchor in node order whose whole run is free, over a row that says of each class whether it is. For a longer run the stretches are measured
+/// first, as its trials that fail late would take more than that (docs/BENCH.md).
+pub fn search_row(
+    row: &[u16; ROW_CLASSES],
+    anchors: &[u16; ROW_CLASSES],
+    k: u32,
+    floor: u32,
+) -> Place
+    requires { ⌜ (k ≤ largestK) × (1 ≤ floor) × (floor ≤ 2 ^ k) × Anchors k (now anchors) × IsRoom k (now row) ⌝ }
+    ensures { λ r. ⌜ Searches k floor (now (row .entry)) r ⌝ }
+{
+    if floor <= SHORT_RUN {
+        return search(row, anchors, k, floor);
+    }
+    let mut room = [0u16; ROW_CLASSES];
+    lengthen(row, k, &mut room);
+    search(&room, anchors, k, floor)
+}
+
 // The first open anchor, by the free stretches of the depth.
 fn first_by_stretches(tree: &[u8; TREE_BYTES], k: u32, floor: u32) -> Place
-    requires { ⌜ (k ≤ largestK) × (floor ≤ 2 ^ k) × IsTree (now tree) ⌝ }
+    requires { ⌜ (k ≤ largestK) × (1 ≤ floor) × (floor ≤ 2 ^ k) × IsTree (now tree) ⌝ }
     ensures { λ r. ⌜ FindsFirst k floor (now (tree .entry)) r ⌝ }
 {
     let mut anchors = [0u16; ROW_CLASSES];
@@ -185,7 +229,7 @@ fn first_by_blocks(tree: &[u8; TREE_BYTES], k: u32, floor: u32) -> Place
 // The first open anchor, or none. A run of one or two blocks needs no measuring; of a longer one the trials that fail late
 // would take more than that (docs/BENCH.md has the counts).
 fn first_open(tree: &[u8; TREE_BYTES], k: u32, floor: u32) -> Place
-    requires { ⌜ (k ≤ largestK) × (floor ≤ 2 ^ k) × IsTree (now tree) ⌝ }
+    requires { ⌜ (k ≤ largestK) × (1 ≤ floor) × (floor ≤ 2 ^ k) × IsTree (now tree) ⌝ }
     ensures { λ r. ⌜ FindsFirst k floor (now (tree .entry)) r ⌝ }
 {
     match floor {

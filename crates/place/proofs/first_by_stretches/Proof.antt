@@ -13,8 +13,8 @@ search-requires : tie.Need-search-requires
 search-requires c κs =
     let m = c .before .before in
     let a = m .before .before .before .before .before in
-    let t = a .pre .2 in
-    (a .pre .0, a .pre .1, m .before .before .before .list-anchors .ensures, (t .0, m .measure .ensures (t .0) (t .1)))
+    let t = a .pre .3 in
+    (a .pre .0, a .pre .1, a .pre .2, m .before .before .before .list-anchors .ensures, (t .0, m .measure .ensures (t .0) (t .1)))
 
 returns : tie.Need-returns
 returns c f e = c .search .ensures f (c .before .before .before .measure .ensures f e)

@@ -125,7 +125,7 @@ first-open-requires c κs =
     let k = c .before .before .before .before .before .before .before .before .before .before .before in
     let a = k .before .before .before .before in
     let b = share-bounds (a .args .floor) (a .args .ceiling) (2 ^ k .k .given .0 .0) (share-is c) in
-    (k-below k, le-trans (b .1) (b .2), a .pre)
+    (k-below k, b .0, le-trans (b .1) (b .2), a .pre)
 
 enum-known-anchor : tie.Need-enum-known-anchor
 enum-known-anchor c = search needs

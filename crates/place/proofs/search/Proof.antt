@@ -3,7 +3,8 @@ use borrow.Author.Needs.{needs}
 use mathlib.Core.Path.{_≡_, refl, sym, _∙_}
 use mathlib.Core.Bool.{Bool, false}
 use mathlib.Core.Logic.{by-cases}
-use Prim.Native.Nat.{ℕ, _-_, _≤_, _<_, _^_}
+use Prim.Native.Nat.{ℕ, _+_, _-_, _%_, _≤_, _<_, _^_}
+use native.Mathlib.Nat.{mod-eq-of-lt}
 use native.Mathlib.Decide.{ℕ-discrete}
 use native.Mathlib.Omega.{arith}
 use lib.ListN.{getD}
@@ -49,40 +50,34 @@ element-copy-out-a c =
 
 -- the anchor of node p, and that it is below the factor
 anchor-is : (c : tie.In-nodes Inv-loop μ-loop Inv-nodes μ-nodes) → getD (c .before .before .before .args .anchors .now) (c .before .nodes .p) 0 ≡ mirrored (c .before .before .before .args .k) (c .before .nodes .p)
-anchor-is c = c .before .before .before .pre .2 (c .before .nodes .p) (omega (arith, c .before .before .factor .ensures .is))
+anchor-is c = c .before .before .before .pre .3 (c .before .nodes .p) (omega (arith, c .before .before .factor .ensures .is))
 
 anchor-below : (c : tie.In-nodes Inv-loop μ-loop Inv-nodes μ-nodes) → getD (c .before .before .before .args .anchors .now) (c .before .nodes .p) 0 < 2 ^ c .before .before .before .args .k
 anchor-below c = rw (anchor-is c) (mirror-lt (c .before .before .before .args .k) (c .before .nodes .p))
 
-loop-holds : tie.Need-loop-holds Inv-loop μ-loop Inv-nodes μ-nodes
-loop-holds c = (refl, λ t m i l. absurd (omega arith))
+-- it is the class of its run's first block
+anchor-first : (c : tie.In-nodes Inv-loop μ-loop Inv-nodes μ-nodes)
+    → (getD (c .before .before .before .args .anchors .now) (c .before .nodes .p) 0 + 0) % 2 ^ c .before .before .before .args .k ≡ getD (c .before .before .before .args .anchors .now) (c .before .nodes .p) 0
+anchor-first c =
+    let A = getD (c .before .before .before .args .anchors .now) (c .before .nodes .p) 0 in
+    let e : A + 0 ≡ A = omega arith in
+    rw e (mod-eq-of-lt (anchor-below c))
 
-cast-class-at : tie.Need-cast-class-at Inv-loop μ-loop Inv-nodes μ-nodes
-cast-class-at c =
-    let n = c .before .before .before in
-    let g : 2 ^ n .before .before .before .args .k ≤ rowClasses = pow-mono (n .before .before .before .pre .0) in
-    omega (arith, anchor-below n)
-
-class-at-requires : tie.Need-class-at-requires Inv-loop μ-loop Inv-nodes μ-nodes
-class-at-requires c κs =
-    let n = c .before .before .before in
-    (within-depth (n .before .before .before .pre .0), anchor-below n, omega arith)
+-- it is in the row
+anchor-in-row : (c : tie.In-nodes Inv-loop μ-loop Inv-nodes μ-nodes) → getD (c .before .before .before .args .anchors .now) (c .before .nodes .p) 0 < rowClasses
+anchor-in-row c =
+    let a = c .before .before .before in
+    let g : 2 ^ a .args .k ≤ rowClasses = pow-mono (a .pre .0) in
+    omega (arith, anchor-below c)
 
 cast-wide : tie.Need-cast-wide Inv-loop μ-loop Inv-nodes μ-nodes
-cast-wide c = search needs
-
--- the class is in the row
-class-below : (c : tie.After-class-at Inv-loop μ-loop Inv-nodes μ-nodes) → c .class-at .result < rowClasses
-class-below c =
-    let a = c .before .before .before .before .before .before .before in
-    let g : 2 ^ a .args .k ≤ rowClasses = pow-mono (a .pre .0) in
-    omega (arith, c .class-at .ensures .below)
+cast-wide c = omega (arith, anchor-in-row (c .before))
 
 mul-wide : tie.Need-mul-wide Inv-loop μ-loop Inv-nodes μ-nodes
-mul-wide c = omega (arith, class-below c)
+mul-wide c = omega (arith, anchor-in-row (c .before))
 
 element-copy-out-wide : tie.Need-element-copy-out-wide Inv-loop μ-loop Inv-nodes μ-nodes
-element-copy-out-wide c = class-below c
+element-copy-out-wide c = anchor-in-row (c .before)
 
 wide-requires : tie.Need-wide-requires Inv-loop μ-loop Inv-nodes μ-nodes
 wide-requires c κs = search needs
@@ -95,10 +90,67 @@ nodes-less c = search needs
 
 nodes-again : tie.Need-nodes-again Inv-loop μ-loop Inv-nodes μ-nodes
 nodes-again c =
-    let l = c .before .before .before .before .before .loop in
-    let n = c .before .before .before .before .before .before .before in
+    let n = c .before .before .before .before in
+    let a = n .before .before .before in
+    let A = getD (a .args .anchors .now) (n .before .nodes .p) 0 in
+    let e : getD (a .args .room .now) ((A + 0) % 2 ^ a .args .k) 0 ≡ 0 = rw (anchor-first n) (sym (c .before .wide .ensures .0) ∙ c .if1 .taken) in (
+      omega arith,
+      λ t m q h.
+          by-cases (ℕ-discrete q (n .before .nodes .p))
+          (λ s. rw (s, ← anchor-is n) (shut-at t (a .args .k) (a .args .room .now) m (a .args .floor) _ 0 (omega (arith, a .pre .1)) e))
+          (λ s. n .before .nodes .inv .1 t m q (omega arith)),
+    )
+
+loop-holds : tie.Need-loop-holds Inv-loop μ-loop Inv-nodes μ-nodes
+loop-holds c =
+    let n = c .before .before .before .before in
     let a = n .before .before .before .args in
-    let e = rw (c .before .before .before .class-at .ensures .is) at (sym (c .before .wide .ensures .0) ∙ c .if1 .taken) in (
+    let A = getD (a .anchors .now) (n .before .nodes .p) 0 in
+    let e : getD (a .room .now) ((A + 0) % 2 ^ a .k) 0 ≡ c .before .wide .result = rw (anchor-first n) (sym (c .before .wide .ensures .0)) in
+    (refl, λ t m i l. clear-more t (a .k) (a .room .now) m 0 A (λ j h. absurd (omega arith)) i (omega (arith, e)))
+
+cast-class-at : tie.Need-cast-class-at Inv-loop μ-loop Inv-nodes μ-nodes
+cast-class-at c =
+    let n = c .before .before .before .before .before .before in
+    let g : 2 ^ n .before .before .before .args .k ≤ rowClasses = pow-mono (n .before .before .before .pre .0) in
+    omega (arith, anchor-below n)
+
+class-at-requires : tie.Need-class-at-requires Inv-loop μ-loop Inv-nodes μ-nodes
+class-at-requires c κs =
+    let n = c .before .before .before .before .before .before in
+    (within-depth (n .before .before .before .pre .0), anchor-below n, omega arith)
+
+cast-wide-2 : tie.Need-cast-wide-2 Inv-loop μ-loop Inv-nodes μ-nodes
+cast-wide-2 c = search needs
+
+-- the class is in the row
+class-below : (c : tie.After-class-at Inv-loop μ-loop Inv-nodes μ-nodes) → c .class-at .result < rowClasses
+class-below c =
+    let a = c .before .before .before .before .before .before .before .before .before .before in
+    let g : 2 ^ a .args .k ≤ rowClasses = pow-mono (a .pre .0) in
+    omega (arith, c .class-at .ensures .below)
+
+mul-wide-2 : tie.Need-mul-wide-2 Inv-loop μ-loop Inv-nodes μ-nodes
+mul-wide-2 c = omega (arith, class-below c)
+
+element-copy-out-wide-2 : tie.Need-element-copy-out-wide-2 Inv-loop μ-loop Inv-nodes μ-nodes
+element-copy-out-wide-2 c = class-below c
+
+wide-requires-2 : tie.Need-wide-requires-2 Inv-loop μ-loop Inv-nodes μ-nodes
+wide-requires-2 c κs = search needs
+
+add-p-2 : tie.Need-add-p-2 Inv-loop μ-loop Inv-nodes μ-nodes
+add-p-2 c = search needs
+
+nodes-less-2 : tie.Need-nodes-less-2 Inv-loop μ-loop Inv-nodes μ-nodes
+nodes-less-2 c = search needs
+
+nodes-again-2 : tie.Need-nodes-again-2 Inv-loop μ-loop Inv-nodes μ-nodes
+nodes-again-2 c =
+    let l = c .before .before .before .before .before .loop in
+    let n = c .before .before .before .before .before .before .before .before .before .before in
+    let a = n .before .before .before .args in
+    let e = rw (c .before .before .before .class-at .ensures .is) at (sym (c .before .wide2 .ensures .0) ∙ c .if2 .taken) in (
       omega arith,
       λ t m q h.
           by-cases (ℕ-discrete q (n .before .nodes .p))
@@ -115,13 +167,13 @@ loop-less c = search needs
 loop-again : tie.Need-loop-again Inv-loop μ-loop Inv-nodes μ-nodes
 loop-again c =
     let l = c .before .before .before .before .before .loop in
-    let a = c .before .before .before .before .before .before .before .before .before .before .args in
-    (l .inv .0, λ t m. rw (← c .before .before .before .class-at .ensures .is, ← c .before .wide .ensures .0) at (clear-more t (a .k) (a .room .now) m (l .j) _ (l .inv .1 t m)))
+    let a = c .before .before .before .before .before .before .before .before .before .before .before .before .before .args in
+    (l .inv .0, λ t m. rw (← c .before .before .before .class-at .ensures .is, ← c .before .wide2 .ensures .0) at (clear-more t (a .k) (a .room .now) m (l .j) _ (l .inv .1 t m)))
 
 returns : tie.Need-returns Inv-loop μ-loop Inv-nodes μ-nodes
 returns c f m =
     let l = c .before .loop in
-    let n = c .before .before .before in
+    let n = c .before .before .before .before .before .before in
     let a = n .before .before .before .args in
     let clear = rw (anchor-is n) at (l .inv .1 f m) in
     rw (anchor-is n)
@@ -146,9 +198,6 @@ search-spec =
     cast-a
     mul-a
     element-copy-out-a
-    loop-holds
-    cast-class-at
-    class-at-requires
     cast-wide
     mul-wide
     element-copy-out-wide
@@ -156,6 +205,16 @@ search-spec =
     add-p
     nodes-less
     nodes-again
+    loop-holds
+    cast-class-at
+    class-at-requires
+    cast-wide-2
+    mul-wide-2
+    element-copy-out-wide-2
+    wide-requires-2
+    add-p-2
+    nodes-less-2
+    nodes-again-2
     add-j
     loop-less
     loop-again
