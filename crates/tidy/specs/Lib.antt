@@ -1,0 +1,2 @@
+-- What a tidy promises.
+pub mod Promises
