@@ -1,5 +1,5 @@
 -- What one call does to one connection.
-use mathlib.Core.Path.{_≡_, refl, sym, _∙_, subst, subst⁻¹}
+use mathlib.Core.Path.{_≡_, refl, sym, ap, _∙_, subst, subst⁻¹}
 use mathlib.Core.Bool.{true, false}
 use mathlib.Core.Logic.{_≢_, by-cases, _⊎_, ⊎-elim}
 use mathlib.Core.List.{List}
@@ -20,15 +20,17 @@ use Rattle.rules.specs.Reports.{reportAll}
 use Rattle.rules.specs.declared.Report.{Report as ReportOfList}
 use Rattle.rules.specs.Image.{IsImage}
 use Rattle.rules.specs.Load.{load}
+use Rattle.rules.specs.Tidy.{withAnchor, tidy}
 use Rattle.blocks.proofs.ScheduleLaws.{set-same}
 use Rattle.calls.proofs.AdmitLaws.{admit-cases, admit-others}
 use Rattle.calls.proofs.DropLaws.{drop-cases, drop-others}
 use Rattle.calls.proofs.ReportLaws.{report-own}
 use Rattle.calls.proofs.ReportsLaws.{report-all-own}
+use Rattle.calls.proofs.TidyLaws.{tidy-lives, tidy-same, tidy-refusal-listed, tidy-says}
 use Rattle.images.proofs.ImageLaws.{load-cases}
-use Rattle.history.specs.Calls.{Bytes, Call, Admit, Drop, Report, Reports, Owner, Anchor, Save, Load, Request, Result, beside, filled, ruledCall, ruled}
+use Rattle.history.specs.Calls.{Bytes, Call, Admit, Drop, Report, Reports, Owner, Anchor, Save, Load, Tidy, Request, Result, beside, filled, ruledCall, ruled}
 use Rattle.history.specs.Runs.{Made}
-use Rattle.history.specs.Moments.{AdmissionOf, DropOf, ReportOf, single, listed, Placed, Restores}
+use Rattle.history.specs.Moments.{AdmissionOf, DropOf, ReportOf, single, listed, Placed, Restores, Tidies}
 
 -- A call that neither begins nor ends x: no accepted admission or drop of x, and no accepted restore.
 pub record Quiet (m : Made) (x : ℕ) : Type 0 where
@@ -36,11 +38,13 @@ pub record Quiet (m : Made) (x : ℕ) : Type 0 where
   pub drops : DropOf (m .request .call) x → m .result .answer ≡ dropped → ⊥
   pub restores : (bytes : Bytes) → Restores m bytes → ⊥
 
--- What becomes of the connection of x when a call is made in s. Only the last three begin or end it.
+-- What becomes of the connection of x when a call is made in s. Only the last three begin or end it. An accepted tidy gives a live one another anchor, or the same.
 pub data Effect (s : Schedule) (m : Made) (x : ℕ) : Type 0 where
   kept : Quiet m x → connection (m .result .schedule) x ≡ connection s x → Effect s m x
   moved : Quiet m x → ReportOf (m .request .call) x → (L e : ℕ)
       → connection (m .result .schedule) x ≡ metered (connection s x) L e → Effect s m x
+  tidied-up : Quiet m x → Tidies m → connection (m .result .schedule) x .live ≡ connection s x .live
+      → (isLive s x ≡ true → connection (m .result .schedule) x ≡ withAnchor (connection s x) (connection (m .result .schedule) x .anchor)) → Effect s m x
   begun : (lo hi f c k A : ℕ) → AdmissionOf (m .request .call) x lo hi f c → Placed (m .result .answer)
       → isLive s x ≡ false → connection (m .result .schedule) x ≡ newConnection k A f c → Effect s m x
   ended : DropOf (m .request .call) x → m .result .answer ≡ dropped → connection (m .result .schedule) x ≡ nobody → Effect s m x
@@ -57,6 +61,7 @@ Other x (Owner b) = Unit {0}
 Other x (Anchor h b) = Unit {0}
 Other x Save = Unit {0}
 Other x (Load bytes) = ⊥
+Other x Tidy = Unit {0}
 
 -- Such a call is quiet.
 other : {m : Made} {x : ℕ} {call : Call} → m .request .call ≡ call → Other x call → Quiet m x
@@ -119,6 +124,13 @@ module _ (s : Schedule) (good : Good s) (r : Request) (x : ℕ) where
   restoring bytes p =
       load-cases s (bytes .list) (bytes .small) Leads refusal (λ cs n w. replaced bytes (p, (n, refl)) (w .long) (w .isSound) (sym (w .saved)))
 
+  tidying : r .call ≡ Tidy → Effect s (leaving (filled (r .lent) (tidy s (r .lent .list)))) x
+  tidying p =
+      ⊎-elim
+      (λ w. kept (other p tt) (ap (λ (t : Schedule). connection t x) (tidy-refusal-listed s (r .lent .list) (w .0) (w .1) .1)))
+      (λ w. tidied-up (other p tt) (p, w) (tidy-lives s good (r .lent .list) x) (tidy-same s good (r .lent .list) x))
+      (tidy-says s (r .lent .list))
+
   effect-ruled : Effect s (leaving (ruled s r)) x
   unfolding ruledCall
   effect-ruled = go (r .call) refl
@@ -132,6 +144,7 @@ module _ (s : Schedule) (good : Good s) (r : Request) (x : ℕ) where
       go (Anchor h b) p = kept (other p tt) refl
       go Save p = kept (other p tt) refl
       go (Load bytes) p = restoring bytes p
+      go Tidy p = tidying p
 
 -- The effect of every call on every handle.
 pub effect : (s : Schedule) → Good s → (m : Made) → m .result ≡ ruled s (m .request) → (x : ℕ) → Effect s m x

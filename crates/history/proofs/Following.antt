@@ -5,10 +5,10 @@ use Rattle.rules.specs.declared.Schedule.{Schedule}
 use Rattle.rules.specs.Good.{Good}
 use Rattle.blocks.proofs.SoundLaws.{Sound}
 use Rattle.blocks.proofs.ScheduleLaws.{fresh-is-good, good-sound}
-use Rattle.calls.proofs.CallLaws.{admits, drops, reports, call-good}
+use Rattle.calls.proofs.CallLaws.{admits, drops, reports, tidies, call-good}
 use Rattle.calls.proofs.ReportsLaws.{report-all-good}
 use Rattle.images.proofs.ImageLaws.{load-good}
-use Rattle.history.specs.Calls.{Call, Admit, Drop, Report, Reports, Owner, Anchor, Save, Load, Lent, Result, beside, asked, filled, written, ruledCall, ruled}
+use Rattle.history.specs.Calls.{Call, Admit, Drop, Report, Reports, Owner, Anchor, Save, Load, Tidy, Lent, Result, beside, asked, filled, written, ruledCall, ruled}
 use Rattle.history.specs.Runs.{Start, Fresh, startOf, History, begin, next, after, Made, Run, begun, more, now, historyOf, followed, StepFunction, By}
 use Rattle.history.specs.Code.{StartsAs, Meets, Coded}
 
@@ -27,6 +27,7 @@ step-good s good (Owner b) lent = good
 step-good s good (Anchor h b) lent = good
 step-good s good Save lent = good
 step-good s good (Load bytes) lent = load-good s good (bytes .list) (bytes .small)
+step-good s good Tidy lent = call-good s good (tidies (lent .list))
 
 -- Every history leaves a good schedule.
 pub after-good : (h : History) → Good (after h)
@@ -75,6 +76,7 @@ meets-ruled s (Owner b) lent t (r, p, e) = e ∙ ap (asked lent s) p
 meets-ruled s (Anchor h b) lent t (r, p, e) = e ∙ ap (asked lent s) p
 meets-ruled s Save lent t (r, exit, p, e) = e ∙ ap (written lent s) p
 meets-ruled s (Load bytes) lent t (r, p, e) = e ∙ ap (beside lent) (p .is)
+meets-ruled s Tidy lent t (r, exit, p, e) = e ∙ ap (filled lent) (p .is)
 
 -- A run of the code is a run of the rule sheet's step.
 pub coded-ruled : (run : Run) → Coded run → By ruled run

@@ -10,32 +10,60 @@ use Rattle.rules.specs.Ownership.{handles}
 use Rattle.rules.specs.Handles.{connection, isLive}
 use Rattle.rules.specs.Report.{metered}
 use Rattle.rules.specs.Load.{load}
+use Rattle.rules.specs.Tidy.{withAnchor}
+use Rattle.blocks.proofs.ScheduleLaws.{at-free}
 use Rattle.calls.proofs.AdmitLaws.{admit-stored}
-use Rattle.images.proofs.ImageLaws.{at-free}
 use Rattle.images.proofs.RoundTrip.{round-connection}
 use Rattle.history.specs.Calls.{Admit, Load, Result, ruledCall, ruled}
 use Rattle.history.specs.Runs.{Start, Fresh, startOf, Made, Run, begun as run-begun, more, now, followed, By}
-use Rattle.history.specs.Moments.{Begins, admitted, restored, Ends, drops, replaced as ends-replaced, Lasts, Unreported, Unmoved, Alive}
+use Rattle.history.specs.Moments.{Begins, admitted, restored, Ends, drops, replaced as ends-replaced, Lasts, Unreported, Untidied, Alive}
 use Rattle.history.specs.Demands.{Bounded, Steady, Lives}
 use Rattle.history.proofs.Following.{now-good, now-sound, result-is, earlier-by}
-use Rattle.history.proofs.Effects.{Quiet, Effect, kept, moved, begun, ended, replaced, effect}
+use Rattle.history.proofs.Effects.{Quiet, Effect, kept, moved, tidied-up, begun, ended, replaced, effect}
 
 -- ---- what lasts
--- A connection as it was, but for its length and estimate; and these too where it was not reported.
+-- A connection as it was, but for its length, estimate and anchor; its length and estimate too where it was not reported, and its anchor where there was no
+-- accepted tidy.
 record Lasting (x : ℕ) (earlier : Run) (between : List Made) : Type 0 where
   length : ℕ
   estimate : ℕ
-  but : connection (now (followed earlier between)) x ≡ metered (connection (now earlier) x) length estimate
-  unreported : Unreported x between → connection (now (followed earlier between)) x ≡ connection (now earlier) x
+  anchor : ℕ
+  but : connection (now (followed earlier between)) x ≡ withAnchor (metered (connection (now earlier) x) length estimate) anchor
+  unreported : Unreported x between → (length ≡ connection (now earlier) x .length) × (estimate ≡ connection (now earlier) x .estimate)
+  untidied : Untidied between → anchor ≡ connection (now earlier) x .anchor
 
 module _ (x : ℕ) (earlier : Run) (live : isLive (now earlier) x ≡ true) where
   -- One more call that does not end it.
   longer : (m : Made) (between : List Made) → (Ends m x → ⊥) → Lasting x earlier between
       → Effect (now (followed earlier between)) m x → Lasting x earlier (m ∷ between)
   longer m between never w (kept quiet e) =
-      record { length = w .length; estimate = w .estimate; but = e ∙ w .but; unreported = λ u. e ∙ w .unreported (u .1) }
+      record {
+        length = w .length;
+        estimate = w .estimate;
+        anchor = w .anchor;
+        but = e ∙ w .but;
+        unreported = λ u. w .unreported (u .1);
+        untidied = λ u. w .untidied (u .1);
+      }
   longer m between never w (moved quiet report l n e) =
-      record { length = l; estimate = n; but = e ∙ ap (λ (c : Connection). metered c l n) (w .but); unreported = λ u. absurd (u .0 report) }
+      record {
+        length = l;
+        estimate = n;
+        anchor = w .anchor;
+        but = e ∙ ap (λ (c : Connection). metered c l n) (w .but);
+        unreported = λ u. absurd (u .0 report);
+        untidied = λ u. w .untidied (u .1);
+      }
+  longer m between never w (tidied-up quiet tidies lives e) =
+      let A = connection (m .result .schedule) x .anchor in
+      record {
+        length = w .length;
+        estimate = w .estimate;
+        anchor = A;
+        but = e (ap (λ (c : Connection). c .live) (w .but) ∙ live) ∙ ap (λ (c : Connection). withAnchor c A) (w .but);
+        unreported = λ u. w .unreported (u .1);
+        untidied = λ u. absurd (u .0 tidies);
+      }
   longer m between never w (begun lo hi f c k A p a unused e) =
       absurd (false≢true (sym unused ∙ ap (λ (c : Connection). c .live) (w .but) ∙ live))
   longer m between never w (ended p a e) = absurd (never (drops p a))
@@ -45,24 +73,19 @@ module _ (x : ℕ) (earlier : Run) (live : isLive (now earlier) x ≡ true) wher
   lasting : (between : List Made) → By ruled (followed earlier between) → Lasts x between → Lasting x earlier between
   lasting [] by lasts =
       let c = connection (now earlier) x in
-      record { length = c .length; estimate = c .estimate; but = refl; unreported = λ u. refl }
+      record { length = c .length; estimate = c .estimate; anchor = c .anchor; but = refl; unreported = λ u. (refl, refl); untidied = λ u. refl }
   lasting (m ∷ between) by lasts =
       let run = followed earlier between in
       longer m between (lasts .0) (lasting between (by .0) (lasts .1)) (effect (now run) (now-good run (by .0)) m (by .1) x)
 
--- "only its own report changes its length or estimate, and no call its factor or anchor"
+-- "only its own report changes its length or estimate, and no call its factor", and only an accepted tidy its anchor.
 pub steady : Steady (By ruled)
 steady earlier between x by live lasts =
     let w = lasting x earlier live between by lasts in (
       ap (λ (c : Connection). c .k) (w .but),
-      λ u. ap (λ (c : Connection). c .anchor) (w .but),
-      λ u. (ap (λ (c : Connection). c .length) (w .unreported u), ap (λ (c : Connection). c .estimate) (w .unreported u)),
+      λ u. ap (λ (c : Connection). c .anchor) (w .but) ∙ w .untidied u,
+      λ u. (ap (λ (c : Connection). c .length) (w .but) ∙ w .unreported u .0, ap (λ (c : Connection). c .estimate) (w .but) ∙ w .unreported u .1),
     )
-
--- No call moves an anchor today: so it stays as long as the connection is live.
-pub unmoved : (x : ℕ) (between : List Made) → Unmoved x between
-unmoved x [] = tt
-unmoved x (m ∷ between) = (λ none. none, unmoved x between)
 
 -- ---- what begins
 -- A live connection with this floor and this ceiling.
@@ -136,6 +159,7 @@ goes-on : (run : Run) (m : Made) (x : ℕ) → Effect (now run) m x → connecti
     → (isLive (now run) x ≡ true → Living x run) → Living x (more run m)
 goes-on run m x (kept quiet e) live before = still run m x quiet (before (rw e at live))
 goes-on run m x (moved quiet report l n e) live before = still run m x quiet (before (rw e at live))
+goes-on run m x (tidied-up quiet tidies lives e) live before = still run m x quiet (before (sym lives ∙ live))
 goes-on run m x (begun lo hi f c k A p a unused e) live before = begins-living run m x f c (admitted lo hi p a)
 goes-on run m x (ended p a e) live before = absurd (false≢true (rw e at live))
 goes-on run m x (replaced bytes w long isSound image) live before =

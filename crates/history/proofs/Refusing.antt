@@ -8,14 +8,18 @@ use Rattle.rules.specs.declared.Schedule.{Schedule}
 use Rattle.rules.specs.Handles.{connection}
 use Rattle.rules.specs.Ownership.{handles, owns}
 use Rattle.rules.specs.Below.{least}
-use Rattle.rules.specs.Answers.{Outcome, refused, slots}
+use Rattle.rules.specs.Answers.{Outcome, Listed, refused, slots}
 use Rattle.rules.specs.Owner.{ownerOr, ownerOf}
 use Rattle.rules.specs.Anchor.{slotsToAnchor, anchorChecks, anchor}
 use Rattle.rules.specs.Save.{saveChecks, saveDone, save}
-use Rattle.calls.proofs.CallLaws.{InTable, Tabled, Leaves, tabled, refusal-in-table, refusal-keeps-schedule, refusal-keeps-buffer}
+use Rattle.rules.specs.Reports.{reportAll}
+use Rattle.rules.specs.Tidy.{tidy}
+use Rattle.calls.proofs.RefusalLaws.{InTable}
+use Rattle.calls.proofs.CallLaws.{Tabled, Leaves, tabled, refusal-in-table, refusal-keeps-schedule, refusal-keeps-buffer}
 use Rattle.calls.proofs.ReportsLaws.{refusal-listed}
+use Rattle.calls.proofs.TidyLaws.{tidy-refusal-listed}
 use Rattle.images.proofs.LoadLaws.{load-in-table, load-keeps}
-use Rattle.history.specs.Calls.{Call, Admit, Drop, Report, Reports, Owner, Anchor, Save, Load, Lent, Result, beside, ruledCall, ruled}
+use Rattle.history.specs.Calls.{Call, Admit, Drop, Report, Reports, Owner, Anchor, Save, Load, Tidy, Lent, Result, beside, filled, ruledCall, ruled}
 use Rattle.history.specs.Runs.{Made, Run, more, now, By}
 use Rattle.history.specs.Demands.{Refusal}
 
@@ -37,19 +41,21 @@ save-left s buffer n = refusal-keeps-buffer (saveChecks s buffer) buffer (saveDo
 outcome-left : (s : Schedule) (lent : Lent) {o : Outcome} → Leaves s o → (n : ℕ) → o .answer ≡ refused n → Left s lent (beside lent o) n
 outcome-left s lent l n e = (refusal-in-table s l n e, refusal-keeps-schedule s l n e, refl)
 
+listed-left : (s : Schedule) (lent : Lent) (o : Listed) {n : ℕ} → InTable n × (o .schedule ≡ s) × (o .list ≡ lent .list) → Left s lent (filled lent o) n
+listed-left s lent o w = (w .0, w .1, ap (λ (l : List ℕ). record { buffer = lent .buffer; list = l }) (w .2))
+
 call-left : (s : Schedule) (call : Call) (lent : Lent) (n : ℕ) → ruledCall s call lent .answer ≡ refused n → Left s lent (ruledCall s call lent) n
 unfolding ruledCall ownerOf anchor
 call-left s (Admit x lo hi f c) lent n e = outcome-left s lent (Leaves.admits x lo hi f c) n e
 call-left s (Drop x) lent n e = outcome-left s lent (Leaves.drops x) n e
 call-left s (Report x sample) lent n e = outcome-left s lent (Leaves.reports x sample) n e
-call-left s (Reports reports) lent n e =
-    let w = refusal-listed s reports (lent .list) n e in
-    (w .0, w .1, ap (λ (l : List ℕ). record { buffer = lent .buffer; list = l }) (w .2))
+call-left s (Reports reports) lent n e = listed-left s lent (reportAll s reports (lent .list)) (refusal-listed s reports (lent .list) n e)
 call-left s (Owner b) lent n e = (owner-tabled (least handles (λ x. owns (connection s x) b)) n e, refl, refl)
 call-left s (Anchor x b) lent n e =
     (tabled (anchorChecks s x) (slots (slotsToAnchor (connection s x) b)) (λ m q. let z : _≡_ {A = ℕ} 0 1 = cc in absurd (omega arith)) n e, refl, refl)
 call-left s Save lent n e = let w = save-left s (lent .buffer) n e in (w .0, refl, ap (λ (b : List ℕ). record { buffer = b; list = lent .list }) (w .1))
 call-left s (Load bytes) lent n e = (load-in-table s (bytes .list) n e, load-keeps s (bytes .list) n e, refl)
+call-left s Tidy lent n e = listed-left s lent (tidy s (lent .list)) (tidy-refusal-listed s (lent .list) n e)
 
 pub refusals : (run : Run) (m : Made) (n : ℕ) → By ruled (more run m) → m .result .answer ≡ refused n → Refusal run m n
 refusals run m n by e =

@@ -13,19 +13,19 @@ use Rattle.rules.specs.Ownership.{handles, factor, owns}
 use Rattle.rules.specs.Subrates.{isFactor}
 use Rattle.rules.specs.Good.{fresh, withConnections, withConnection}
 use Rattle.rules.specs.Refusals.{number, decided}
-use Rattle.rules.specs.Answers.{ok}
+use Rattle.rules.specs.Answers.{refused, ok}
 use Rattle.rules.specs.Handles.{connection}
 use Rattle.rules.specs.Admit.{kIn, anchorFor}
 use Rattle.rules.specs.Image.{image}
 use Rattle.rules.specs.Load.{loadChecks, loadDone}
-use Rattle.blocks.proofs.ScheduleLaws.{nobody-owns, fresh-is-good}
+use Rattle.blocks.proofs.ScheduleLaws.{nobody-owns, at-free, fresh-is-good}
 use Rattle.rules.proofs.Readings.{single as logger}
-use Rattle.images.proofs.ImageLaws.{image-bytes, at-free}
-use Rattle.history.specs.Calls.{Bytes, Call, Admit, Drop, Report, Reports, Owner, Save, Load, Lent, nothing, Request, ruledCall}
+use Rattle.images.proofs.ImageLaws.{image-bytes}
+use Rattle.history.specs.Calls.{Bytes, Call, Admit, Drop, Report, Reports, Owner, Save, Load, Tidy, Lent, nothing, Request, ruledCall}
 use Rattle.history.specs.Runs.{Fresh, startOf, History, begin, next, after, Made, Run, begun, more, now, historyOf, StepFunction, By}
-use Rattle.history.specs.Moments.{Ends, admitted, drops, replaced}
-use Rattle.history.specs.Demands.{IntervalsMeant, FactorsMeant, ResultsGiven, ConnectionsGiven, RoomExact, RestoreExact, Demand2, countFrom, Counted, ApartEver, Lives, Demand3}
-use Rattle.history.specs.Versions.{RefusesAll, anchorsZero, doesNothing, inventsAnswers, makesUpLength, endsAnother, startsAtZero, forgetsEstimate, neverGrows, losesBackups, admits512, restores512, refusesWithOne}
+use Rattle.history.specs.Moments.{ReportOf, single as single-report, listed, Ends, admitted, drops, replaced}
+use Rattle.history.specs.Demands.{Demand1, IntervalsMeant, FactorsMeant, ResultsGiven, ConnectionsGiven, RoomExact, RestoreExact, Demand2, countFrom, Counted, ApartEver, Steady, Lives, Demand3}
+use Rattle.history.specs.Versions.{RefusesAll, anchorsZero, doesNothing, inventsAnswers, makesUpLength, endsAnother, startsAtZero, forgetsEstimate, neverGrows, losesBackups, admits512, restores512, tidiesHalfway, tidiesAfresh, refusesWithOne}
 
 -- ---- runs of a version
 -- What it leaves of a request,
@@ -293,3 +293,44 @@ restores-512 meant =
     let h = next start (plain (Load (record { list = image slower; small = image-bytes slower }))) in
     let e : connection (now (ran restores512 h)) 0 ≡ logger 9 0 5000 = refl in
     false≢true (subst (λ (c : Connection). isFactor (factor c) ≡ true) e (meant (ran restores512 h) 0 (ran-by restores512 h) (ap (λ (c : Connection). c .live) e)))
+
+-- ---- one that tidies halfway
+-- Handle 0 has two blocks in eight, 1 and 2 one in four each. In a tidy's order 1 and 2 take anchors 0 and 2, and 0 finds none: the tidy is refused, and 1 is at 0
+-- where it was at 2.
+abbrev crowded : History
+crowded = next (next (next start (plain (Admit 0 6 48 2 2))) (plain (Admit 1 6 24 1 1))) (plain (Admit 2 6 24 1 1))
+
+pub tidies-halfway : Demand1 (By tidiesHalfway) → ⊥
+unfolding ran tidiesHalfway ruledCall
+tidies-halfway d =
+    let run = ran tidiesHalfway crowded in
+    let m = leaves tidiesHalfway run (plain Tidy) in
+    let said : m .result .answer ≡ refused 19 = refl in
+    let z : _≡_ {A = ℕ} 0 2 = ap (λ (s : Schedule). connection s 1 .anchor) (d .refusals run m 19 (ran-by tidiesHalfway (next crowded (plain Tidy))) said .schedule) in
+    omega arith
+
+-- ---- and one that admits anew
+-- A tidy ends nothing, and is nobody's report.
+tidying-ends-nothing : (step : StepFunction) (run : Run) (x : ℕ) → Ends (leaves step run (plain Tidy)) x → ⊥
+tidying-ends-nothing step run x (drops e a) = let z : _≡_ {A = ℕ} 0 1 = cc in omega arith
+tidying-ends-nothing step run x (replaced bytes w) =
+    let e = w .0 in
+    let z : _≡_ {A = ℕ} 0 1 = cc in
+    omega arith
+
+tidying-reports-nothing : (x : ℕ) → ReportOf Tidy x → ⊥
+tidying-reports-nothing x (single-report sample e) = let z : _≡_ {A = ℕ} 0 1 = cc in omega arith
+tidying-reports-nothing x (listed reports e among) = let z : _≡_ {A = ℕ} 0 1 = cc in omega arith
+
+-- Handle 0 has grown to two blocks; after the tidy it has one, and no report of its own lies between.
+abbrev grownOnce : History
+grownOnce = next (next start growing) (plain (Report 0 7500))
+
+pub tidies-afresh : Steady (By tidiesAfresh) → ⊥
+unfolding ran ruledCall withConnections
+tidies-afresh steady =
+    let run = ran tidiesAfresh grownOnce in
+    let m = leaves tidiesAfresh run (plain Tidy) in
+    let w = steady run (m ∷ []) 0 (ran-by tidiesAfresh (next grownOnce (plain Tidy))) refl (tidying-ends-nothing tidiesAfresh run 0, tt) in
+    let z : _≡_ {A = ℕ} 1 2 = w .2 (tidying-reports-nothing 0, tt) .0 in
+    omega arith

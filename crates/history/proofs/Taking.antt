@@ -18,8 +18,9 @@ use Rattle.rules.specs.declared.Distance.the-variants.{Slots, Refused as Distan
 use Rattle.rules.specs.declared.Saving.{Saving}
 use Rattle.rules.specs.declared.Saving.the-variants.{Size, Refused as SavingRefused}
 use Rattle.rules.specs.declared.Loading.the-variants.{Count, Refused as LoadingRefused}
+use Rattle.rules.specs.declared.Tidying.the-variants.{Count as TidyingCount, Refused as TidyingRefused}
 use Rattle.rules.specs.Refusals.{Check, number, decided}
-use Rattle.rules.specs.Answers.{Answer, Outcome, Listed, refused, refusing, refusingList, slots, reported, ofAdmission, ofDropping, ofReporting, ofReportingAll, ofOwnership, ofDistance, ofSaving, ofLoading}
+use Rattle.rules.specs.Answers.{Answer, Outcome, Listed, refused, refusing, refusingList, slots, ofAdmission, ofDropping, ofReporting, ofReportingAll, ofOwnership, ofDistance, ofSaving, ofLoading, ofTidying}
 use Rattle.rules.specs.Handles.{connection}
 use lib.ListN.{length}
 use Rattle.rules.specs.Ownership.{handles, owns, taken}
@@ -34,13 +35,14 @@ use Rattle.rules.specs.Owner.{ownerOr, ownerOf}
 use Rattle.rules.specs.Anchor.{slotsToAnchor, anchorChecks, anchor}
 use Rattle.rules.specs.Save.{saveChecks, saveDone, save}
 use Rattle.rules.specs.Load.{loadChecks, loadDone, load}
+use Rattle.rules.specs.Tidy.{tidyChecks, tidyDone, tidy}
 use Rattle.calls.proofs.RefusalLaws.{decided-cases, decided-map}
 use Rattle.calls.proofs.MeterLaws.{change-cases}
-use Rattle.calls.proofs.CallLaws.{admits, drops, reports, call-good}
+use Rattle.calls.proofs.CallLaws.{admits, drops, reports, tidies, call-good}
 use Rattle.calls.proofs.ReportsLaws.{report-all-good}
 use Rattle.images.proofs.ImageLaws.{load-good}
 use Rattle.blocks.proofs.ScheduleLaws.{fresh-is-good}
-use Rattle.history.specs.Calls.{Call, Admit, Drop, Report, Reports, Owner, Anchor, Save, Load, Lent, Result}
+use Rattle.history.specs.Calls.{Call, Admit, Drop, Report, Reports, Owner, Anchor, Save, Load, Tidy, Lent, Result}
 use Rattle.history.specs.Runs.{Start, Fresh, startOf, now, StepFunction, By}
 use Rattle.history.specs.Demands.{Takes}
 use Rattle.history.specs.Code.{StartsAs, Meets, Coded}
@@ -66,9 +68,18 @@ module _ {E : Type 0} (of : E → Answer) (no : Refusal → E) (names : (why : R
       let v = stands cs (done .answer) w in
       (v .0, v .1 ∙ sym e)
 
--- What stands for an outcome.
+  stands-listed : (cs : List Check) (s : Schedule) (list : List ℕ) (done : Listed) → Stands (done .answer) → Stands (decided cs (refusingList s list) done .answer)
+  stands-listed cs s list done w =
+      let e = decided-map (λ (o : Listed). o .answer) cs (refusingList s list) done in
+      let v = stands cs (done .answer) w in
+      (v .0, v .1 ∙ sym e)
+
+-- What stands for an outcome, and for one with a list.
 abbrev whole : Outcome → Answer → Outcome
 whole o a = record { answer = a; schedule = o .schedule }
+
+abbrev listed : Listed → Answer → Listed
+listed o a = record { answer = a; schedule = o .schedule; list = o .list }
 
 changing : (L goal : ℕ) (room : Bool) → (e : Reporting) × (ofReporting e ≡ change L goal room)
 changing L goal room =
@@ -91,7 +102,7 @@ saving s buffer =
 
 -- So each call has a result that meets its promise.
 meets-some : (s : Schedule) → Good s → (call : Call) (lent : Lent) → (t : Result) × Meets s call lent t
-unfolding admit admitDone dropHandle dropDone report reportDone reportAll reportsDone ownerOf anchor load loadDone
+unfolding admit admitDone dropHandle dropDone report reportDone reportAll reportsDone ownerOf anchor load loadDone tidy tidyDone
 meets-some s good (Admit h lo hi f c) lent =
     let w = stands-outcome ofAdmission AdmissionRefused (λ why. refl) (admitChecks s h lo hi f c) s (admitDone s h (kFor lo hi) f c) (Placed _ _ _, refl) in
     let o = admit s h lo hi f c in
@@ -108,20 +119,9 @@ meets-some s good (Report h sample) lent =
     (_, (record { answer = w .0; schedule = o .schedule }, record { is = ap (whole o) (w .1); good = call-good s good (reports h sample) }, refl))
 meets-some s good (Reports xs) lent =
     let checks = reportsChecks (length xs) (length (lent .list)) in
-    let w = stands ofReportingAll ReportingAllRefused (λ why. refl) checks (reported (length xs)) (Answered _, refl) in
+    let w = stands-listed ofReportingAll ReportingAllRefused (λ why. refl) checks s (lent .list) (reportsDone s xs (lent .list)) (Answered _, refl) in
     let o = reportAll s xs (lent .list) in
-    let e = decided-map (λ (x : Listed). x .answer) checks (refusingList s (lent .list)) (reportsDone s xs (lent .list)) in (
-      _,
-      (
-        record { answer = w .0; schedule = o .schedule },
-        o .list,
-        record {
-          is = ap (λ (a : Answer). record { answer = a; schedule = o .schedule; list = o .list }) (w .1 ∙ sym e);
-          good = report-all-good s xs (lent .list) good;
-        },
-        refl,
-      ),
-    )
+    (_, (record { answer = w .0; schedule = o .schedule }, o .list, record { is = ap (listed o) (w .1); good = report-all-good s xs (lent .list) good }, refl))
 meets-some s good (Owner b) lent = let w = owning (least handles (λ h. owns (connection s h) b)) in (_, (w .0, w .1, refl))
 meets-some s good (Anchor h b) lent =
     let w = stands ofDistance DistanceRefused (λ why. refl) (anchorChecks s h) (slots (slotsToAnchor (connection s h) b)) (Slots _, refl) in
@@ -134,6 +134,10 @@ meets-some s good (Load bytes) lent =
     let w = stands-outcome ofLoading LoadingRefused (λ why. refl) (loadChecks (bytes .list)) s (loadDone (bytes .list)) (Count _, refl) in
     let o = load s (bytes .list) in
     (_, (record { answer = w .0; schedule = o .schedule }, record { is = ap (whole o) (w .1); good = load-good s good (bytes .list) (bytes .small) }, refl))
+meets-some s good Tidy lent =
+    let w = stands-listed ofTidying TidyingRefused (λ why. refl) (tidyChecks (s .connections) (lent .list)) s (lent .list) (tidyDone s (lent .list)) (TidyingCount _, refl) in
+    let o = tidy s (lent .list) in
+    (_, (record { answer = w .0; schedule = o .schedule }, o .list, record { is = ap (listed o) (w .1); good = call-good s good (tidies (lent .list)) }, refl))
 
 starts-some : (start : Start) → (s : Schedule) × StartsAs start s
 unfolding startOf

@@ -4,6 +4,7 @@ use Rattle.schedule.proofs.Calls.{admit-unique, drop-unique, report-unique}
 use Rattle.reports.proofs.Calls.{report-all-unique}
 use Rattle.questions.proofs.Asked.{owner-unique, anchor-unique}
 use Rattle.image.proofs.Calls.{save-unique, load-unique}
+use Rattle.tidy.proofs.Calls.{tidy-unique}
 use Rattle.hci.proofs.Calls.{read-unique, write-unique}
 use Rattle.command.proofs.Calls.{run-unique, obey-unique}
 use Rattle.history.specs.OneOutcome.{OneOutcome}
@@ -20,6 +21,7 @@ one-outcome =
       anchor = anchor-unique;
       save = save-unique;
       load = load-unique;
+      tidy = tidy-unique;
       readMessage = read-unique;
       writeMessage = write-unique;
       run = λ input. run-unique;

@@ -9,6 +9,7 @@ use Rattle.rules.specs.Admit.{admit}
 use Rattle.rules.specs.Drop.{dropHandle}
 use Rattle.rules.specs.Report.{report}
 use Rattle.rules.specs.Reports.{reportAll}
+use Rattle.rules.specs.Tidy.{tidy}
 use Rattle.rules.specs.Owner.{ownerOf}
 use Rattle.rules.specs.Anchor.{anchor}
 use Rattle.rules.specs.Save.{save}
@@ -29,6 +30,7 @@ pub data Call : Type 0 where
   Anchor : ℕ → ℕ → Call
   Save : Call
   Load : Bytes → Call
+  Tidy : Call
 
 -- All that is lent to a call, for it to write: a buffer of bytes, and a list of numbers.
 pub record Lent : Type 0 where
@@ -65,7 +67,7 @@ written lent s w = record { answer = w .answer; schedule = s; lent = record { bu
 
 -- The rule sheet's own step: what its definitions give for a call.
 unfoldable pub ruledCall : Schedule → Call → Lent → Result
-unfolding admit dropHandle report reportAll ownerOf anchor save load
+unfolding admit dropHandle report reportAll ownerOf anchor save load tidy
 ruledCall s (Admit handle smallest largest floor ceiling) lent = beside lent (admit s handle smallest largest floor ceiling)
 ruledCall s (Drop handle) lent = beside lent (dropHandle s handle)
 ruledCall s (Report handle sample) lent = beside lent (report s handle sample)
@@ -74,6 +76,7 @@ ruledCall s (Owner block) lent = asked lent s (ownerOf s block)
 ruledCall s (Anchor handle block) lent = asked lent s (anchor s handle block)
 ruledCall s Save lent = written lent s (save s (lent .buffer))
 ruledCall s (Load bytes) lent = beside lent (load s (bytes .list))
+ruledCall s Tidy lent = filled lent (tidy s (lent .list))
 
 abbrev pub ruled : Schedule → Request → Result
 ruled s r = ruledCall s (r .call) (r .lent)

@@ -11,13 +11,15 @@ use Rattle.rules.specs.declared.Ownership.{Ownership}
 use Rattle.rules.specs.declared.Distance.{Distance}
 use Rattle.rules.specs.declared.Saving.{Saving}
 use Rattle.rules.specs.declared.Loaded.{Loaded}
-use Rattle.rules.specs.Answers.{ofAdmitted, ofDropped, ofReported, ofReportedAll, ofOwnership, ofDistance, ofSaving, ofLoaded}
+use Rattle.rules.specs.declared.Tidied.{Tidied}
+use Rattle.rules.specs.Answers.{ofAdmitted, ofDropped, ofReported, ofReportedAll, ofOwnership, ofDistance, ofSaving, ofLoaded, ofTidied}
 use Rattle.run.specs.Promises.{Starts}
 use Rattle.schedule.specs.Promises.{Admits, Drops, Reports as SingleReports}
 use Rattle.reports.specs.Promises.{ReportsAll}
 use Rattle.questions.specs.Promises.{OwnerSays, AnchorSays}
 use Rattle.image.specs.Promises.{Saves, Loads}
-use Rattle.history.specs.Calls.{Call, Admit, Drop, Report, Reports, Owner, Anchor, Save, Load, Lent, Result, beside, asked, filled, written, ruled}
+use Rattle.tidy.specs.Promises.{Tidies}
+use Rattle.history.specs.Calls.{Call, Admit, Drop, Report, Reports, Owner, Anchor, Save, Load, Tidy, Lent, Result, beside, asked, filled, written, ruled}
 use Rattle.history.specs.Runs.{Start, Fresh, after, Made, Run, begun, more, now, historyOf, System}
 use Rattle.history.specs.Demands.{Demand1, Demand2, Demand3}
 
@@ -38,6 +40,7 @@ Meets s (Anchor handle block) lent t = (r : Distance) × AnchorSays s handle blo
 Meets s Save lent t =
     (r : Saving) × (exit : List ℕ) × Saves s (lent .buffer) exit r × (t ≡ written lent s (record { answer = ofSaving r; buffer = exit }))
 Meets s (Load bytes) lent t = (r : Loaded) × Loads s (bytes .list) r × (t ≡ beside lent (ofLoaded r))
+Meets s Tidy lent t = (r : Tidied) × (exit : List ℕ) × Tidies s (lent .list) exit r × (t ≡ filled lent (ofTidied r exit))
 
 abbrev pub Coded : System
 Coded (begun start s) = StartsAs start s

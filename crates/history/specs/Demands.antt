@@ -24,7 +24,7 @@ use Rattle.rules.specs.Image.{image, IsImage}
 use Rattle.rules.specs.Answers.{Answer, refused, ok, saved, loaded}
 use Rattle.history.specs.Calls.{Bytes, Save, Request, Result, ruled}
 use Rattle.history.specs.Runs.{Start, after, Made, Run, begun, more, now, historyOf, followed, System}
-use Rattle.history.specs.Moments.{AdmissionOf, Placed, RestoreOf, Lasts, Unreported, Unmoved, Alive}
+use Rattle.history.specs.Moments.{AdmissionOf, Placed, RestoreOf, Lasts, Unreported, Untidied, Alive}
 
 -- Block b belongs to the live connection of handle x: what all that follows says of blocks goes through this.
 abbrev pub has : Schedule → ℕ → ℕ → Bool
@@ -194,12 +194,14 @@ Bounded S =
     (run : Run) (x floor ceiling : ℕ) → S run → Alive x floor ceiling run
     → (floor ≤ connection (now run) x .length) × (connection (now run) x .length ≤ ceiling)
 
--- "While it is live and no restore is accepted, only its own report changes its length or estimate, and no call its factor or anchor."
+-- "While it is live and no restore is accepted, only its own report changes its length or estimate, and no call its factor or anchor", and "Beside an accepted
+-- restore only an accepted tidy moves anchors; the rest of demand 3 holds through it": its factor stays; its anchor, if no accepted tidy lies between; its
+-- length and its estimate, if no report of its own does.
 abbrev pub Steady : System → Type 0
 Steady S =
     (earlier : Run) (between : List Made) (x : ℕ) → S (followed earlier between) → isLive (now earlier) x ≡ true → Lasts x between
     → (connection (now (followed earlier between)) x .k ≡ connection (now earlier) x .k)
-    × (Unmoved x between → connection (now (followed earlier between)) x .anchor ≡ connection (now earlier) x .anchor)
+    × (Untidied between → connection (now (followed earlier between)) x .anchor ≡ connection (now earlier) x .anchor)
     × (Unreported x between
     → (connection (now (followed earlier between)) x .length ≡ connection (now earlier) x .length)
     × (connection (now (followed earlier between)) x .estimate ≡ connection (now earlier) x .estimate))

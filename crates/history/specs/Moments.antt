@@ -11,8 +11,8 @@ use Rattle.rules.specs.Sound.{sound}
 use Rattle.rules.specs.Handles.{connection}
 use Rattle.rules.specs.Reports.{Among}
 use Rattle.rules.specs.Image.{IsImage}
-use Rattle.rules.specs.Answers.{Answer, ok, dropped, loaded}
-use Rattle.history.specs.Calls.{Bytes, Call, Admit, Drop, Report, Reports, Load}
+use Rattle.rules.specs.Answers.{Answer, ok, dropped, loaded, tidied}
+use Rattle.history.specs.Calls.{Bytes, Call, Admit, Drop, Report, Reports, Load, Tidy}
 use Rattle.history.specs.Runs.{Made, Run, more, followed}
 
 -- ---- what a call asks for
@@ -38,9 +38,13 @@ RestoreOf call bytes = call ≡ Load bytes
 abbrev pub Placed : Answer → Type 0
 Placed answer = (F : ℕ) × (A : ℕ) × (L : ℕ) × (answer ≡ ok F A L)
 
--- and an accepted restore.
+-- an accepted restore,
 abbrev pub Restores : Made → Bytes → Type 0
 Restores m bytes = RestoreOf (m .request .call) bytes × ((n : ℕ) × (m .result .answer ≡ loaded n))
+
+-- and an accepted tidy.
+abbrev pub Tidies : Made → Type 0
+Tidies m = (m .request .call ≡ Tidy) × ((n : ℕ) × (m .result .answer ≡ tidied n))
 
 -- The connection of handle x begins, with a floor and a ceiling: "its accepted admission, or the accepted restore of an image
 -- that holds it".
@@ -53,10 +57,6 @@ pub data Begins (m : Made) (x floor ceiling : ℕ) : Type 0 where
 pub data Ends (m : Made) (x : ℕ) : Type 0 where
   drops : DropOf (m .request .call) x → m .result .answer ≡ dropped → Ends m x
   replaced : (bytes : Bytes) → Restores m bytes → Ends m x
-
--- It moves to another anchor, and does not end: no call does that.
-abbrev pub Moves : Made → ℕ → Type 0
-Moves m x = ⊥
 
 -- ---- two moments
 -- Of none of the calls between.
@@ -72,9 +72,9 @@ Lasts x between = Never (λ m. Ends m x) between
 abbrev pub Unreported : ℕ → List Made → Type 0
 Unreported x between = Never (λ m. ReportOf (m .request .call) x) between
 
--- No call between moves its anchor.
-abbrev pub Unmoved : ℕ → List Made → Type 0
-Unmoved x between = Never (λ m. Moves m x) between
+-- No call between is an accepted tidy.
+abbrev pub Untidied : List Made → Type 0
+Untidied between = Never Tidies between
 
 -- A call begins x, and none ends it up to the end of the run.
 pub record Alive (x floor ceiling : ℕ) (run : Run) : Type 0 where

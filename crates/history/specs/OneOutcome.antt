@@ -14,6 +14,7 @@ use Rattle.rules.specs.declared.Ownership.{Ownership}
 use Rattle.rules.specs.declared.Distance.{Distance}
 use Rattle.rules.specs.declared.Saving.{Saving}
 use Rattle.rules.specs.declared.Loaded.{Loaded}
+use Rattle.rules.specs.declared.Tidied.{Tidied}
 use Rattle.rules.specs.declared.Message.{Message}
 use Rattle.rules.specs.declared.Reading.{Reading}
 use Rattle.rules.specs.declared.Writing.{Writing}
@@ -22,6 +23,7 @@ use Rattle.schedule.specs.Promises.{Admits, Drops, Reports}
 use Rattle.reports.specs.Promises.{ReportsAll}
 use Rattle.questions.specs.Promises.{OwnerSays, AnchorSays}
 use Rattle.image.specs.Promises.{Saves, Loads}
+use Rattle.tidy.specs.Promises.{Tidies}
 use Rattle.hci.specs.Promises.{Reads, Writes}
 use Rattle.command.specs.declared.Output.{Output}
 use Rattle.command.specs.Promises.{Obeys, Runs}
@@ -39,6 +41,7 @@ pub record OneOutcome : Type 0 where
       → AnchorSays s handle block a → AnchorSays s handle block b → a ≡ b
   pub save : (s : Schedule) (buffer x y : List ℕ) (a b : Saving) → Saves s buffer x a → Saves s buffer y b → (a ≡ b) × (x ≡ y)
   pub load : (s : Schedule) (bytes : List ℕ) (a b : Loaded) → Loads s bytes a → Loads s bytes b → a ≡ b
+  pub tidy : (s : Schedule) (list x y : List ℕ) (a b : Tidied) → Tidies s list x a → Tidies s list y b → (a ≡ b) × (x ≡ y)
   pub readMessage : (bytes : List ℕ) (a b : Reading) → Reads bytes a → Reads bytes b → a ≡ b
   pub writeMessage : (m : Message) (buffer x y : List ℕ) (a b : Writing) → Writes m buffer x a → Writes m buffer y b → (a ≡ b) × (x ≡ y)
   pub run : (input : List ℕ) (a b : Output) → Runs input a → Runs input b → a ≡ b

@@ -1,24 +1,28 @@
--- Versions that are shut out: the rule sheet's six, four that answer nearly as they should, one that still admits F 512 and one that still restores it, and
--- one that refuses everything with 1. Each is a step function.
+-- Versions that are shut out: the rule sheet's six, four that answer nearly as they should, one that still admits F 512 and one that still restores it, one
+-- that tidies halfway and one that tidies by admitting anew, and one that refuses everything with 1. Each is a step function.
 use Prim.Native.Nat.{ℕ, _+_, _%_, _^_}
 use mathlib.Core.Path.{_≡_}
 use mathlib.Core.Bool.{Bool, true, false, cond, _&&_}
-use mathlib.Core.List.{List, [], _∷_, _++_}
+use mathlib.Core.List.{List, [], _∷_, _++_, map}
+use mathlib.Core.Option.{Option·elim}
 use lib.Dec.{eqb}
 use lib.ListN.{set, getD, length, replicate, take, drop}
 use Rattle.rules.specs.declared.Schedule.{Schedule}
 use Rattle.rules.specs.declared.Connection.{Connection}
 use Rattle.rules.specs.declared.Report.{Report as ReportOfList}
 use Rattle.rules.specs.declared.Refusal.the-variants.{HandleAbove63}
-use Rattle.rules.specs.Good.{withConnection}
+use Rattle.rules.specs.Below.{isNone}
+use Rattle.rules.specs.Ownership.{freeSlots, at}
+use Rattle.rules.specs.Good.{withConnections, withConnection}
 use Rattle.rules.specs.Refusals.{number, decided}
 use Rattle.rules.specs.Handles.{connection, isLive}
-use Rattle.rules.specs.Answers.{Answer, refusing, refused, ok, dropped, kept, grown, shrunk, tight, owner, idle, slots, saved, loaded, reported, message, wrote}
+use Rattle.rules.specs.Answers.{Answer, refusing, refused, ok, dropped, kept, grown, shrunk, tight, owner, idle, slots, saved, loaded, reported, message, wrote, tidied}
 use Rattle.rules.specs.Admit.{inRange, kFor, newConnection, anchorFor}
 use Rattle.rules.specs.Drop.{dropHandle}
 use Rattle.rules.specs.Report.{metered}
 use Rattle.rules.specs.Load.{loadChecks, loadDone}
-use Rattle.history.specs.Calls.{Bytes, Call, Admit, Drop, Report, Reports, Owner, Anchor, Save, Load, Request, Result, beside, written, ruled}
+use Rattle.rules.specs.Tidy.{tidyOrder, placedNext, withAnchor, arranged}
+use Rattle.history.specs.Calls.{Bytes, Call, Admit, Drop, Report, Reports, Owner, Anchor, Save, Load, Tidy, Request, Result, beside, written, ruledCall, ruled}
 use Rattle.history.specs.Runs.{StepFunction}
 
 -- ---- the rule's result, but for one kind of call
@@ -31,6 +35,7 @@ onAdmit f (Owner b) it = it
 onAdmit f (Anchor x b) it = it
 onAdmit f Save it = it
 onAdmit f (Load bytes) it = it
+onAdmit f Tidy it = it
 
 abbrev onDrop : (Result → Result) → Call → Result → Result
 onDrop f (Admit x lo hi floor ceiling) it = it
@@ -41,6 +46,7 @@ onDrop f (Owner b) it = it
 onDrop f (Anchor x b) it = it
 onDrop f Save it = it
 onDrop f (Load bytes) it = it
+onDrop f Tidy it = it
 
 -- A list of reports is a report of each.
 abbrev onEach : (ℕ → Result → Result) → List ReportOfList → Result → Result
@@ -56,6 +62,7 @@ onReport f (Owner b) it = it
 onReport f (Anchor x b) it = it
 onReport f Save it = it
 onReport f (Load bytes) it = it
+onReport f Tidy it = it
 
 abbrev onOwner : (Result → Result) → Call → Result → Result
 onOwner f (Admit x lo hi floor ceiling) it = it
@@ -66,6 +73,7 @@ onOwner f (Owner b) it = f it
 onOwner f (Anchor x b) it = it
 onOwner f Save it = it
 onOwner f (Load bytes) it = it
+onOwner f Tidy it = it
 
 abbrev onImage : (Result → Result) → (Bytes → Result → Result) → Call → Result → Result
 onImage save load (Admit x lo hi floor ceiling) it = it
@@ -76,6 +84,18 @@ onImage save load (Owner b) it = it
 onImage save load (Anchor x b) it = it
 onImage save load Save it = save it
 onImage save load (Load bytes) it = load bytes it
+onImage save load Tidy it = it
+
+abbrev onTidy : (Result → Result) → Call → Result → Result
+onTidy f (Admit x lo hi floor ceiling) it = it
+onTidy f (Drop x) it = it
+onTidy f (Report x sample) it = it
+onTidy f (Reports reports) it = it
+onTidy f (Owner b) it = it
+onTidy f (Anchor x b) it = it
+onTidy f Save it = it
+onTidy f (Load bytes) it = it
+onTidy f Tidy it = f it
 
 -- ---- and for a part of it
 abbrev accepted : Answer → Bool
@@ -94,6 +114,7 @@ accepted (loaded n) = true
 accepted (reported n) = true
 accepted (message m) = true
 accepted (wrote n) = true
+accepted (tidied n) = true
 
 abbrev leaving : Schedule → Result → Result
 leaving s it = record { answer = it .answer; schedule = s; lent = it .lent }
@@ -189,6 +210,30 @@ restores512 s r =
     onImage (λ it. it)
     (λ bytes it. beside (it .lent) (decided (take 2 (loadChecks (bytes .list)) ++ drop 3 (loadChecks (bytes .list))) (refusing s) (loadDone (bytes .list))))
     (r .call) (ruled s r)
+
+-- ---- one that tidies halfway
+-- The connections of these handles, one after the other beside those placed: each has its new anchor, up to the first that finds none.
+unfoldable halfway : List ℕ → List Connection → List Connection → List Connection
+unfolding placedNext Option·elim
+halfway [] placed cs = cs
+halfway (h ∷ hs) placed cs =
+    Option·elim (placedNext placed (at cs h)) cs (λ A. halfway hs (set placed h (withAnchor (at cs h) A)) (set cs h (withAnchor (at cs h) A)))
+
+-- Where one finds no anchor a tidy is refused as it should be, and those already placed keep their new anchors.
+unfoldable pub tidiesHalfway : StepFunction
+unfolding arranged tidyOrder halfway withConnections ruledCall
+tidiesHalfway s r =
+    let cs = s .connections in
+    onTidy (λ it. cond (isNone (arranged cs)) (leaving (withConnections s (halfway (tidyOrder cs) freeSlots cs)) it) it) (r .call) (ruled s r)
+
+-- ---- and one that admits anew
+-- An accepted tidy gives each connection the length and the estimate that an admission would give it.
+abbrev afresh : Connection → Connection
+afresh c = cond (c .live) (newConnection (c .k) (c .anchor) (c .floor) (c .ceiling)) c
+
+abbrev pub tidiesAfresh : StepFunction
+tidiesAfresh s r =
+    onTidy (λ it. cond (accepted (it .answer)) (leaving (withConnections (it .schedule) (map afresh (it .schedule .connections))) it) it) (r .call) (ruled s r)
 
 -- ---- and one that refuses all, with a number that is not room's
 -- Everything is refused with 1.
