@@ -1,7 +1,7 @@
 //! The words of an answer, written at a place, and its line.
 ghost use Prim.Native.Nat.{_+_, _≤_};
 ghost use lib.ListN.{length};
-ghost use Rattle.rules.specs.Answers.{ok, message as messageAs, ofAdmission, ofDropping, ofReporting, ofReportingAll, ofOwnership, ofDistance, ofSaving, ofLoading, ofReading, ofWriting, ofReply};
+ghost use Rattle.rules.specs.Answers.{ok, message as messageAs, ofAdmission, ofDropping, ofReporting, ofReportingAll, ofOwnership, ofDistance, ofSaving, ofLoading, ofTidying, ofReading, ofWriting, ofReply};
 ghost use mathlib.Core.Path.{_≡_};
 ghost use Rattle.rules.specs.Messages.{subrateValues, changeValues};
 ghost use Rattle.rules.specs.Words.{wordsOf, longestAnswer, longestMessage};
@@ -20,6 +20,7 @@ use rules::ReportingAll;
 use rules::Saving;
 use rules::SubrateChange;
 use rules::Subrates;
+use rules::Tidying;
 use rules::Writing;
 use text::put_count;
 use text::put_refused;
@@ -149,6 +150,17 @@ pub fn put_reporting_all(out: &mut [u8], at: usize, answer: ReportingAll) -> usi
     match answer {
         ReportingAll::Answered(n) => put_count(out, at, b"reported", n as u32),
         ReportingAll::Refused(r) => put_refused(out, at, r),
+    }
+}
+
+/// The words of a tidy's answer.
+pub fn put_tidying(out: &mut [u8], at: usize, answer: Tidying) -> usize
+    requires { ⌜ at + longestAnswer ≤ length (now out) ⌝ }
+    ensures { λ r. ⌜ PutsWords (now (out .entry)) at (ofTidying answer) (now (out .exit)) r ⌝ }
+{
+    match answer {
+        Tidying::Count(n) => put_count(out, at, b"tidied", n as u32),
+        Tidying::Refused(r) => put_refused(out, at, r),
     }
 }
 

@@ -13,7 +13,7 @@ use Rattle.rules.specs.declared.Line.the-variants.{Says, Bad}
 use Rattle.rules.specs.Good.{Good, fresh}
 use Rattle.rules.specs.declared.Message.the-variants.{Default, Request, Change}
 use Rattle.rules.specs.Messages.{valuesOf}
-use Rattle.rules.specs.Answers.{Answer, refused, ok, dropped, kept, grown, shrunk, tight, owner, idle, slots, saved, loaded, reported, message, wrote}
+use Rattle.rules.specs.Answers.{Answer, refused, ok, dropped, kept, grown, shrunk, tight, owner, idle, slots, saved, loaded, reported, message, wrote, tidied}
 use Rattle.rules.specs.Obey.{singleFrom, obey}
 use Rattle.rules.specs.Text.{byte, text}
 use Rattle.rules.specs.Decimal.{decimal}
@@ -118,6 +118,7 @@ words-without (message (Default v)) = worded (text "default") (valuesOf (Default
 words-without (message (Request handle v)) = worded (text "request") (valuesOf (Request handle v)) refl
 words-without (message (Change e)) = worded (text "change") (valuesOf (Change e)) refl
 words-without (wrote n) = worded (text "wrote") (n ∷ []) refl
+words-without (tidied n) = worded (text "tidied") (n ∷ []) refl
 
 -- and neither has what a line prints.
 pub carried-out-without : (s : Schedule) (l : Line) → Without (byte "\n") (carriedOut s l .words)

@@ -6,18 +6,18 @@ ghost use lib.ListN.{length, take};
 ghost use Rattle.rules.specs.Bytes.{same};
 ghost use Rattle.rules.specs.Text.{text as textOf};
 ghost use Rattle.rules.specs.Good.{Good};
-ghost use Rattle.lists.specs.Lines.{mostEntries, longestRow, longestLine};
-ghost use Rattle.lists.specs.Promises.{ReadsAsked, Makes, Performs};
+ghost use Rattle.lists.specs.Lines.{mostEntries, longestRow, longestLine, reportsPrinted};
+ghost use Rattle.lists.specs.Promises.{ReadsAsked, Makes, PerformsReports};
 use crate::LONGEST_ROW;
 use crate::MOST_ENTRIES;
 use crate::lending::blank;
+use crate::lending::perform_bad;
+use crate::lending::put_lent;
 use answer::put_reporting_all;
 use order::Performed;
 use reports::report_pairs;
 use rules::Schedule;
 use text::Row;
-use text::put_row;
-use text::put_word;
 use text::read_row;
 
 // The place after `reports`: the word's length.
@@ -55,15 +55,14 @@ pub fn asked_of(line: &[u8], numbers: &mut [u32]) -> Asked
 // Makes the reports that the numbers say, and writes the line: the answer, and the list afterwards.
 fn make_reports(s: Schedule, numbers: &[u32], list: &mut [u32], out: &mut [u8]) -> Performed
     requires { ⌜ Good s × (length (now list) ≤ mostEntries) × (longestLine ≤ length (now out)) ⌝ }
-    ensures { λ r. ⌜ Makes s (now (numbers .entry)) (length (now (list .entry))) (now (out .entry)) (now (out .exit)) r ⌝ }
+    ensures { λ r. ⌜ Makes (reportsPrinted s (length (now (list .entry))) (now (numbers .entry))) (now (out .entry)) (now (out .exit)) r ⌝ }
 {
     blank(list);
     let done = report_pairs(s, numbers, list);
     let answer = done.answer;
     let schedule = done.schedule;
-    let a = put_reporting_all(out, 0, answer);
-    let b = put_row(out, a, list);
-    let count = put_word(out, b, b"\n");
+    let at = put_reporting_all(out, 0, answer);
+    let count = put_lent(out, at, list);
     Performed { schedule, count }
 }
 
@@ -76,15 +75,11 @@ pub fn perform_reports(
     out: &mut [u8],
 ) -> Performed
     requires { ⌜ Good s × (same (take (length (textOf "reports")) (now line)) (textOf "reports") ≡ true) × (longestRow ≤ length (now numbers)) × (mostEntries ≤ length (now list)) × (longestLine ≤ length (now out)) ⌝ }
-    ensures { λ r. ⌜ Performs s (now (line .entry)) (now (out .entry)) (now (out .exit)) r ⌝ }
+    ensures { λ r. ⌜ PerformsReports s (now (line .entry)) (now (out .entry)) (now (out .exit)) r ⌝ }
 {
     let asked = asked_of(line, numbers);
     let Asked::Reports(entries, count) = asked else {
-        let printed = put_word(out, 0, b"bad\n");
-        return Performed {
-            schedule: s,
-            count: printed,
-        };
+        return perform_bad(s, out);
     };
     let end = 1 + count;
     make_reports(s, &numbers[1..end], &mut list[..entries], out)

@@ -9,7 +9,9 @@ use libc::STDERR_FILENO;
 use libc::STDOUT_FILENO;
 use lists::LONGEST_ROW;
 use lists::MOST_ENTRIES;
+use lists::MOST_MOVES;
 use lists::perform_reports;
+use lists::perform_tidy;
 use order::Performed;
 use rules::Schedule;
 use schedule::fresh;
@@ -28,6 +30,10 @@ fn perform_line(s: Schedule, line: &[u8], bytes: &mut [u8], out: &mut [u8]) -> P
         let mut numbers = [0u32; LONGEST_ROW];
         let mut list = [0u32; MOST_ENTRIES];
         return perform_reports(s, line, &mut numbers, &mut list, out);
+    }
+    if opens(line, b"tidy") {
+        let mut list = [0u32; MOST_MOVES];
+        return perform_tidy(s, line, &mut list, out);
     }
     match perform_message(line, bytes, out) {
         Told::Count(count) => Performed { schedule: s, count },

@@ -88,6 +88,7 @@ pub fn refusal_number(r: Refusal) -> u32
         Refusal::MessageWrong => 16,
         Refusal::ValuesForbidden => 17,
         Refusal::FactorIllegal => 18,
+        Refusal::NoAnchorForAll => 19,
     }
 }
 

@@ -5,9 +5,11 @@ use mathlib.Core.List.{List}
 use Prim.Native.Nat.{ℕ, _+_}
 use native.Mathlib.Omega.{arith}
 use lib.ListN.{length, getD, drop}
+use Rattle.rules.specs.Text.{text}
 use Rattle.text.specs.Promises.{HasRow, ReadsRow}
+use Rattle.text.proofs.Opening.{opens-long}
 use Rattle.lists.specs.Lines.{AsksReports}
-use Rattle.lists.proofs.AskedLaws.{word-long, asks-wrong, asks-read, asks-right}
+use Rattle.lists.proofs.AskedLaws.{says-read, asks-wrong, asks-right}
 use Rattle.lists.proofs.reporting.asked_of.Statement.{statement}
 use Rattle.lists.proofs.reporting.asked_of.Tie as tie
 
@@ -21,12 +23,10 @@ row c =
 -- and is what any line of reports has there.
 read : (c : tie.After-known-told) (entries : ℕ) (numbers : List ℕ) → AsksReports (c .before .before .before .before .before .before .before .before .before .args .line .now) entries numbers
     → (c .before .read .given .0 .0 ≡ 1 + length numbers) × (getD (c .before .before .before .before .before .read-row .last .1 .1 .0) 0 0 ≡ entries)
-read c =
-    let start = c .before .before .before .before .before .before .before .before .before in
-    asks-read (start .args .line .now) (start .pre .0) (start .args .numbers .now) (c .before .before .before .before .before .read-row .last .1 .1 .0) (c .before .read .given .0 .0) (row c)
+read c entries numbers a = says-read (text "reports") (c .before .before .before .before .before .before .before .before .before .args .line .now) (row c) (a .says)
 
 read-row-requires : tie.Need-read-row-requires
-read-row-requires c κs = word-long (c .before .before .before .args .line .now) (c .before .before .before .pre .0)
+read-row-requires c κs = opens-long (c .before .before .before .args .line .now) (text "reports") (c .before .before .before .pre .0)
 
 enum-known-read : tie.Need-enum-known-read
 enum-known-read c = search needs
@@ -41,7 +41,7 @@ returns : tie.Need-returns
 returns c =
     let r = c .before .before .before .before .read-row in
     let start = c .before .before .before .before .before .before .before .before in
-    asks-wrong (start .args .line .now) (start .pre .0) (start .args .numbers .now) (r .last .1 .1 .0) (start .pre .1)
+    asks-wrong (start .args .line .now) (start .args .numbers .now) (r .last .1 .1 .0) (start .pre .1)
     (subst (ReadsRow (drop 7 (start .args .line .now)) (start .args .numbers .now) (r .last .1 .1 .0)) (c .enum-told .given .1) (r .ensures))
 
 same-length-2 : tie.Need-same-length-2
@@ -78,7 +78,7 @@ returns-5 : tie.Need-returns-5
 returns-5 c =
     let k = c .before .before .before .before in
     let start = k .before .before .before .before .before .before .before .before .before in
-    asks-right (start .args .line .now) (start .pre .0) (start .args .numbers .now) (k .before .before .before .before .before .read-row .last .1 .1 .0) (k .before .read .given .0 .0) (row k)
+    asks-right (start .args .line .now) (start .args .numbers .now) (k .before .before .before .before .before .read-row .last .1 .1 .0) (k .before .read .given .0 .0) (start .pre .0) (row k)
     (c .before .before .before .if1 .left) (c .before .before .if2 .left) (c .if3 .left)
 
 pub asked-of-spec : {M : Type 1} → statement M

@@ -15,14 +15,8 @@ report-pairs-requires c κs = search needs
 put-reporting-all-requires : tie.Need-put-reporting-all-requires
 put-reporting-all-requires c κs = search needs
 
-put-row-requires : tie.Need-put-row-requires
-put-row-requires c κs = search needs
-
-slice-aggregate-put-word : tie.Need-slice-aggregate-put-word
-slice-aggregate-put-word c = search needs
-
-put-word-requires : tie.Need-put-word-requires
-put-word-requires c κs = search needs
+put-lent-requires : tie.Need-put-lent-requires
+put-lent-requires c κs = search needs
 
 same-length : tie.Need-same-length
 same-length c = search needs
@@ -32,9 +26,8 @@ same-length-2 c = search needs
 
 returns : tie.Need-returns
 returns c =
-    let word = c .before .before in
-    let list = word .before .before .before .before .before in
-    let answer = list .before .before .before .before .before in
+    let lent = c .before .before in
+    let answer = lent .before .before .before .before .before in
     let call = answer .before .before .before .before .before in
     let empty = call .before .before .before .before in
     let start = empty .before .before .before .before .before in
@@ -42,9 +35,9 @@ returns c =
     record {
       prints =
           prints-reports (a .s) (a .numbers .now) (empty .blank .last .0) (call .report-pairs .last .1 .1 .0) (call .report-pairs .result) (length (a .list .now)) (empty .blank .ensures) (call .report-pairs .ensures)
-          (answer .put-reporting-all .ensures .puts) (list .put-row .ensures .puts) (word .put-word .ensures);
+          (answer .put-reporting-all .ensures .puts) (lent .put-lent .ensures .puts);
       good = call .report-pairs .ensures .good;
-      fits = omega (arith, start .pre .1, empty .blank .kept, call .report-pairs .kept, answer .put-reporting-all .ensures .room, list .put-row .ensures .room, word .put-word .ensures .ends);
+      fits = omega (arith, start .pre .1, empty .blank .kept, call .report-pairs .kept, answer .put-reporting-all .ensures .room, lent .put-lent .ensures .room);
     }
 
 pub make-reports-spec : {M : Type 1} → statement M
@@ -54,9 +47,7 @@ make-reports-spec =
     blank-requires
     report-pairs-requires
     put-reporting-all-requires
-    put-row-requires
-    slice-aggregate-put-word
-    put-word-requires
+    put-lent-requires
     same-length
     same-length-2
     returns)

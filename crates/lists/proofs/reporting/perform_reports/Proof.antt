@@ -5,7 +5,7 @@ use native.Mathlib.Omega.{arith}
 use lib.ListN.{length-take}
 use lib.Seq.{length-take-le}
 use Rattle.lists.specs.Promises.{HasAsked, ReadsAsked}
-use Rattle.lists.proofs.AskedLaws.{performs-asked, performs-bad}
+use Rattle.lists.proofs.AskedLaws.{performs-reports, performs-bad}
 use Rattle.lists.proofs.reporting.perform_reports.Statement.{statement}
 use Rattle.lists.proofs.reporting.perform_reports.Tie as tie
 
@@ -22,11 +22,8 @@ enum-known-asked c = search needs
 enum-told : tie.Need-enum-told
 enum-told c = search needs
 
-slice-aggregate-put-word : tie.Need-slice-aggregate-put-word
-slice-aggregate-put-word c = search needs
-
-put-word-requires : tie.Need-put-word-requires
-put-word-requires c κs = search needs
+perform-bad-requires : tie.Need-perform-bad-requires
+perform-bad-requires c κs = search needs
 
 same-length : tie.Need-same-length
 same-length c = search needs
@@ -36,11 +33,10 @@ same-length-2 c = search needs
 
 returns : tie.Need-returns
 returns c =
-    let r = c .before .before .before .before .before .before .before .before .before .asked-of in
-    let start = c .before .before .before .before .before .before .before .before .before .before .before .before .before .before .before in
-    performs-bad (start .args .s) (start .args .line .now) (c .before .before .put-word .result) (start .pre .0)
-    (subst (ReadsAsked (start .args .line .now) (r .last .1 .0)) (c .before .before .before .before .before .enum-told .given .1) (r .ensures))
-    (c .before .before .put-word .ensures)
+    let start = c .before .before .before .before .before .before .before .before .before .before .before .before .before .before in
+    let r = c .before .before .before .before .before .before .before .before .asked-of in
+    let none = subst (ReadsAsked (start .args .line .now) (r .last .1 .0)) (c .before .before .before .before .enum-told .given .1) (r .ensures) in
+    performs-bad (start .args .s) (c .before .before .perform-bad .result) (λ a. none (a .0) (a .1)) (c .before .before .perform-bad .ensures)
 
 add-end : tie.Need-add-end
 add-end c = omega (arith, asked c .within)
@@ -76,7 +72,7 @@ returns-2 : tie.Need-returns-2
 returns-2 c =
     let told = c .before .before .before .before .before .before .before .before .before in
     let start = told .before .before .before .before .before .before .before .before .before .before .before in
-    performs-asked (start .args .line .now) (start .pre .1) (start .args .s) (told .before .before .before .before .before .asked-of .last .1 .0) (start .args .list .now) (told .before .asked .given .0 .0) (told .before .asked .given .0 .1 .0)
+    performs-reports (start .args .s) (start .args .line .now) (told .before .before .before .before .before .asked-of .last .1 .0) (start .args .list .now) (told .before .asked .given .0 .0) (told .before .asked .given .0 .1 .0)
     (c .before .before .before .before .make-reports .result) (asked told) (start .pre .3) (c .before .before .before .before .make-reports .ensures)
 
 pub perform-reports-spec : {M : Type 1} → statement M
@@ -86,8 +82,7 @@ perform-reports-spec =
     asked-of-requires
     enum-known-asked
     enum-told
-    slice-aggregate-put-word
-    put-word-requires
+    perform-bad-requires
     same-length
     same-length-2
     returns
