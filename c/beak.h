@@ -8,7 +8,7 @@
  *  - a struct beak is all zeros, or what beak_fresh gave, or what a call of this release left, or a copy of such a one: nobody else writes its bytes, and
  *    over an update it goes as an image, saved before and loaded after;
  *  - one call at a time on a struct beak: no other thread reads or writes it meanwhile;
- *  - as long as a call runs, its image, reports or message can be read and its buffer or answers written, and none overlaps another or the schedule;
+ *  - as long as a call runs, its image, reports or message can be read and its buffer, answers or moves written, and none overlaps another or the schedule;
  *  - to an export itself the pointer of what is lent is not null, even for nothing: the functions around the exports see to that.
  */
 #ifndef BEAK_H
@@ -49,7 +49,8 @@ enum beak_kind {
     BEAK_DEFAULT = 14,
     BEAK_REQUEST = 15,
     BEAK_CHANGE = 16,
-    BEAK_WROTE = 17     /* size of the message in bytes */
+    BEAK_WROTE = 17,    /* size of the message in bytes */
+    BEAK_TIDIED = 18    /* how many anchors differ */
 };
 struct beak_said {
     uint32_t kind, first, second, third;
@@ -61,6 +62,11 @@ struct beak_said {
 /* A report of a list: whose, and the microseconds that it used in its last run. */
 struct beak_sample {
     uint32_t handle, sample;
+};
+
+/* An entry of a tidy: whose anchor differs, and where it was and is. */
+struct beak_move {
+    uint32_t handle, old_anchor, new_anchor;
 };
 
 /* The values of a subrate command, timeout in units of 10 ms. Allowed are 1 <= min <= max, max * (latency + 1) <= 500, continuation < max and
@@ -93,6 +99,7 @@ BEAK_HOLDS(sizeof(size_t) == 8 && sizeof(void *) == 8);
 BEAK_HOLDS(sizeof(struct beak) == 1152 && BEAK_ALIGNMENT(struct beak) == 4);
 BEAK_HOLDS(sizeof(struct beak_said) == 16 && BEAK_ALIGNMENT(struct beak_said) == 4);
 BEAK_HOLDS(sizeof(struct beak_sample) == 8 && BEAK_ALIGNMENT(struct beak_sample) == 4);
+BEAK_HOLDS(sizeof(struct beak_move) == 12 && BEAK_ALIGNMENT(struct beak_move) == 4);
 BEAK_HOLDS(sizeof(struct beak_called) == 1168 && offsetof(struct beak_called, schedule) == 16);
 BEAK_HOLDS(sizeof(struct beak_subrates) == 10 && BEAK_ALIGNMENT(struct beak_subrates) == 2);
 BEAK_HOLDS(sizeof(struct beak_change) == 12 && BEAK_ALIGNMENT(struct beak_change) == 2 && offsetof(struct beak_change, handle) == 2);
@@ -105,6 +112,8 @@ struct beak_called beak_dropped(struct beak s, uint32_t handle);
 struct beak_called beak_reported(struct beak s, uint32_t handle, uint32_t sample);
 /* the numbers are handle, sample, handle, sample, and so many of them; a last odd one is none */
 struct beak_called beak_reported_all(struct beak s, const uint32_t *numbers, size_t count, uint32_t *answers, size_t entries);
+/* the numbers are handle, old anchor, new anchor, handle, and so many of them; a last one or two belong to no entry */
+struct beak_called beak_tidied(struct beak s, uint32_t *numbers, size_t count);
 struct beak_called beak_loaded(struct beak s, const uint8_t *bytes, size_t size);
 struct beak_said beak_saved(struct beak s, uint8_t *buffer, size_t room);
 struct beak_said beak_owned(struct beak s, uint32_t block);
@@ -163,6 +172,23 @@ static inline struct beak_said beak_entry(uint32_t entry) {
     r.kind = entry < 65536 ? (uint32_t)BEAK_REFUSED : BEAK_KEPT - 1 + entry / 65536;
     r.first = entry % 65536;
     return r;
+}
+
+/* As beak_tidy below, for who lends numbers: three an entry; one or two left over at their end stay as they were. */
+static inline struct beak_said beak_tidy_numbers(struct beak *s, uint32_t *numbers, size_t count) {
+    uint32_t no_number = 0;
+    struct beak_called r = beak_tidied(*s, count != 0 ? numbers : &no_number, count);
+    *s = r.schedule;
+    return r.said;
+}
+
+/* Tidy: place the connections anew on an empty schedule, by rising factor, equal factors by rising handle, each where an admission goes, with its present
+ * length for the floor: TIDIED. Nothing but anchors changes. Each whose anchor differs has an entry, by rising handle; entries past them stay as they were.
+ * Refused, in this order: 19 some connection finds no anchor, 14 fewer entries than anchors that differ. Of more than 64 entries the first 64 are handed
+ * on, as there are no more handles. */
+static inline struct beak_said beak_tidy(struct beak *s, struct beak_move *moves, size_t entries) {
+    size_t first = entries < 64 ? entries : 64;
+    return beak_tidy_numbers(s, first != 0 ? &moves->handle : NULL, 3 * first);
 }
 
 /* Load an image in place of the schedule: LOADED. Refused, in this order: 9 records wrong, 10 numbers not sound, 18 a factor of 512 and everything

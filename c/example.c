@@ -1,5 +1,5 @@
 /* The rule sheet's whole case, call by call; a save, a fresh start, and a load of those bytes; reports of a whole cycle at once; admissions by a range;
- * and subrate messages. */
+ * a tidy; and subrate messages. */
 #include <stdbool.h>
 #include <stdio.h>
 #include <string.h>
@@ -111,6 +111,48 @@ static void by_a_range(void) {
     told("from 1537 to 3200  no 15", beak_admit(&other, 2, 1537, 3200, 1, 1), BEAK_REFUSED, 15, 0, 0);
 }
 
+/* An entry of a tidy, which must be this. */
+static void moved(struct beak_move m, struct beak_move n) {
+    printf("  handle %u moves from %u to %u\n", m.handle, m.old_anchor, m.new_anchor);
+    expect(m.handle == n.handle && m.old_anchor == n.old_anchor && m.new_anchor == n.new_anchor, "a move");
+}
+
+/* Of eight loggers with a block of eight each those of blocks 0 and 1 leave, and no block of every four is free. A tidy moves the other six together. */
+static void close_up(void) {
+    const struct beak_move before = {0xA5A5A5A5, 0xA5A5A5A5, 0xA5A5A5A5};
+    const struct beak_move six[6] = {{1, 4, 0}, {2, 2, 4}, {3, 6, 2}, {5, 5, 6}, {6, 3, 1}, {7, 7, 5}};
+    struct beak_move moves[7] = {before, before, before, before, before, before, before};
+    struct beak_move untouched[7], many[65];
+    for (int i = 0; i < 65; i++) many[i] = before;
+    struct beak other, same;
+    beak_start(&other);
+    for (uint32_t handle = 0; handle < 8; handle++) (void)beak_admit(&other, handle, BEAK_LEAST_INTERVAL, 48, 1, 1);
+    told("drop 0             ok", beak_drop(&other, 0), BEAK_DROPPED, 0, 0, 0);
+    told("drop 4             ok", beak_drop(&other, 4), BEAK_DROPPED, 0, 0, 0);
+    told("admit 8 24 1 1     no 6", beak_admit(&other, 8, BEAK_LEAST_INTERVAL, 24, 1, 1), BEAK_REFUSED, 6, 0, 0);
+    same = other;
+    memcpy(untouched, moves, sizeof moves);
+    told("tidy into 5        no 14", beak_tidy(&other, moves, 5), BEAK_REFUSED, 14, 0, 0);
+    expect(memcmp(&other, &same, sizeof other) == 0 && memcmp(moves, untouched, sizeof moves) == 0, "a refused tidy leaves schedule and entries as they were");
+    told("tidy into 7        tidied 6", beak_tidy(&other, moves, 7), BEAK_TIDIED, 6, 0, 0);
+    for (int i = 0; i < 6; i++) moved(moves[i], six[i]);
+    expect(memcmp(moves + 6, &before, sizeof before) == 0, "the entry past the moves is as it was");
+    told("tidy into none     tidied 0", beak_tidy(&other, NULL, 0), BEAK_TIDIED, 0, 0, 0);
+    told("tidy into 65       tidied 0", beak_tidy(&other, many, 65), BEAK_TIDIED, 0, 0, 0);
+    for (int i = 0; i < 65; i++) expect(memcmp(many + i, &before, sizeof before) == 0, "an entry where nothing moves is as it was");
+    told("admit 8 24 1 1     ok 4 3 1", beak_admit(&other, 8, BEAK_LEAST_INTERVAL, 24, 1, 1), BEAK_PLACED, 4, 3, 1);
+}
+
+/* The two of F 4 come first and take the even blocks, so that no two blocks in a row are left for that of F 8. */
+static void no_anchor_for_all(void) {
+    struct beak other;
+    beak_start(&other);
+    told("admit 0 48 2 2     ok 8 0 2", beak_admit(&other, 0, BEAK_LEAST_INTERVAL, 48, 2, 2), BEAK_PLACED, 8, 0, 2);
+    told("admit 1 24 1 1     ok 4 2 1", beak_admit(&other, 1, BEAK_LEAST_INTERVAL, 24, 1, 1), BEAK_PLACED, 4, 2, 1);
+    told("admit 2 24 1 1     ok 4 3 1", beak_admit(&other, 2, BEAK_LEAST_INTERVAL, 24, 1, 1), BEAK_PLACED, 4, 3, 1);
+    told("tidy into none     no 19", beak_tidy(&other, NULL, 0), BEAK_REFUSED, 19, 0, 0);
+}
+
 /* A default is read, and written again; with latency 1 it is forbidden, as 500 * 2 is above 500. A request is written, and read again. */
 static void subrate_commands(void) {
     const uint8_t bytes[13] = {0x7d, 0x20, 0x0a, 0x01, 0x00, 0xf4, 0x01, 0x00, 0x00, 0x00, 0x00, 0x0a, 0x00};
@@ -170,6 +212,8 @@ int main(void) {
     save_and_load();
     reports_at_once();
     by_a_range();
+    close_up();
+    no_anchor_for_all();
     subrate_commands();
     subrate_change();
     puts(right ? "as the rule sheet has it" : "NOT as the rule sheet has it");

@@ -5,13 +5,13 @@
 #include <string.h>
 #include "beak.h"
 
-enum { LONGEST_SCRIPT = 65536, LARGEST_BUFFER = 2048, LONGEST_LIST = 128, CONNECTION_KIND = 2 };
+enum { LONGEST_SCRIPT = 65536, LARGEST_BUFFER = 2048, LONGEST_LIST = 128, MOST_NUMBERS = 400, CONNECTION_KIND = 2 };
 
 static struct beak s; /* static, so all zeros: fresh */
 static char script[LONGEST_SCRIPT + 1];
 static uint8_t bytes[LONGEST_SCRIPT / 2];
 static struct beak_sample list[LONGEST_LIST];
-static uint32_t answers[LONGEST_LIST];
+static uint32_t lent[MOST_NUMBERS];
 
 #ifdef BEAK_COUNTED
 #include <unistd.h>
@@ -126,6 +126,7 @@ static const char *word(uint32_t kind) {
     case BEAK_REQUEST: return "request";
     case BEAK_CHANGE: return "change";
     case BEAK_WROTE: return "wrote";
+    case BEAK_TIDIED: return "tidied";
     }
     return "?";
 }
@@ -143,6 +144,12 @@ static void print_lent(struct beak_said r, size_t room) {
     print(r);
     if (room != 0) printf(" ");
     print_bytes(room);
+}
+
+/* An answer, and the whole list of numbers that the call was lent. */
+static void print_listed(struct beak_said r, uint32_t count) {
+    print(r);
+    for (uint32_t i = 0; i < count; i++) printf(" %u", lent[i]);
 }
 
 static void print_subrates(struct beak_subrates v) { printf(" %u %u %u %u %u", v.min, v.max, v.latency, v.continuation, v.timeout); }
@@ -242,12 +249,22 @@ static bool reports(struct rest r) {
     if (!spaced(&r, &room) || room > LONGEST_LIST) return false;
     for (; !ends(r); count++)
         if (count == LONGEST_LIST || !spaced(&r, &list[count].handle) || !spaced(&r, &list[count].sample)) return false;
-    memset(answers, 0xA5, sizeof answers);
+    memset(lent, 0xA5, sizeof lent);
     mark();
-    struct beak_said said = beak_report_all(&s, list, count, answers, room);
+    struct beak_said said = beak_report_all(&s, list, count, lent, room);
     mark();
-    print(said);
-    for (uint32_t i = 0; i < room; i++) printf(" %u", answers[i]);
+    print_listed(said, room);
+    return true;
+}
+
+static bool tidy(struct rest r) {
+    uint32_t count;
+    if (!numbers(r, 1, &count) || count > MOST_NUMBERS) return false;
+    memset(lent, 0xA5, sizeof lent);
+    mark();
+    struct beak_said said = beak_tidy_numbers(&s, lent, count);
+    mark();
+    print_listed(said, count);
     return true;
 }
 
@@ -304,6 +321,7 @@ static bool line(struct rest r) {
     if (passes(&r, "save")) return save(r);
     if (passes(&r, "load")) return load(r);
     if (passes(&r, "reports")) return reports(r);
+    if (passes(&r, "tidy")) return tidy(r);
     if (passes(&r, "message")) return message(r);
     if (passes(&r, "default")) return write_default(r);
     if (passes(&r, "request")) return write_request(r);

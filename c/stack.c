@@ -14,6 +14,7 @@ static const struct beak_subrates widest = {1, 500, 0, 499, 3200};
 static const struct beak_change changed = {0, 3839, 500, 0, 499, 3200};
 static struct beak_sample cycle[64];
 static uint32_t answers[64];
+static struct beak_move moves[64];
 static uint8_t image[1290], painted[65536];
 static size_t size;
 static ucontext_t here, there;
@@ -25,6 +26,7 @@ static void admit_half(void) { said = beak_admit(&s, 0, BEAK_LEAST_INTERVAL, 12,
 static void drop(void) { said = beak_drop(&s, 0); }
 static void report(void) { said = beak_report(&s, 0, 7500); }
 static void report_all(void) { said = beak_report_all(&s, cycle, 64, answers, 64); }
+static void tidy(void) { said = beak_tidy(&s, moves, 64); }
 static void owner(void) { said = beak_owner(&s, 511); }
 static void anchor(void) { said = beak_anchor(&s, 63, 7); }
 static void load(void) { said = beak_load(&s, image, size); }
@@ -76,6 +78,7 @@ int main(void) {
     save();
     measure("drop", "the whole tree", drop);
     measure("load", "the whole tree", load);
+    measure("tidy", "the whole tree", tidy);
     fresh();
     measure("admit", "a run of 256 blocks", admit_longest);
     fresh();

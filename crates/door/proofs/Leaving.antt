@@ -1,11 +1,11 @@
 -- What a call hands to C, from what it left, and from the list that it filled.
 use mathlib.Core.Path.{_≡_, ap, _∙_}
 use Rattle.rules.specs.Good.{Good}
-use Rattle.rules.specs.Answers.{Outcome, Listed}
+use Rattle.rules.specs.Answers.{Outcome, Listed, withoutList}
 use Rattle.door.specs.declared.Said.{Said}
 use Rattle.door.specs.declared.Called.{Called}
 use Rattle.door.specs.Numbers.{InNumbers}
-use Rattle.door.specs.Promises.{called, withoutList, Leaves, Lists}
+use Rattle.door.specs.Promises.{called, Leaves, Lists}
 
 pub leaves : {left o : Outcome} {r : Said} → InNumbers (left .answer) r → left ≡ o → Good (left .schedule)
     → Leaves o (record { said = r; schedule = left .schedule })

@@ -4,14 +4,14 @@ use mathlib.Core.Path.{_≡_, refl, sym, ap, _∙_}
 use mathlib.Core.Bool.{cond}
 use mathlib.Core.List.{List}
 use lib.Dec.{eqb}
-use Rattle.rules.specs.Answers.{Answer, Outcome, Listed, Written, refused, ok, dropped, kept, grown, shrunk, tight, owner, idle, slots, saved, loaded, reported, message, wrote}
+use Rattle.rules.specs.Answers.{Answer, Outcome, Listed, Written, withoutList, refused, ok, dropped, kept, grown, shrunk, tight, owner, idle, slots, saved, loaded, reported, message, wrote, tidied}
 use Rattle.rules.specs.declared.Message.{Message}
 use Rattle.rules.specs.declared.Message.the-variants.{Default, Request, Change}
 use Rattle.door.specs.declared.Said.{Said}
 use Rattle.door.specs.declared.Read.{Read}
 use Rattle.door.specs.declared.Called.{Called}
 use Rattle.door.specs.Numbers.{inNumbers, InNumbers, noMessage, inParts}
-use Rattle.door.specs.Promises.{Leaves, Lists, Writes, withoutList}
+use Rattle.door.specs.Promises.{Leaves, Lists, Writes}
 
 -- The answer that numbers are of, with the values of a message beside them.
 unfoldable readBack : Read → Answer
@@ -33,7 +33,8 @@ readBack r =
     cond (eqb (s .kind) 14) (message (Default (r .subrates))) (
     cond (eqb (s .kind) 15) (message (Request (r .handle) (r .subrates))) (
     cond (eqb (s .kind) 16) (message (Change (r .change))) (
-    wrote (s .first)))))))))))))))))
+    cond (eqb (s .kind) 17) (wrote (s .first)) (
+    tidied (s .first))))))))))))))))))
 
 read-back : (a : Answer) → readBack (inParts a) ≡ a
 unfolding readBack
@@ -54,6 +55,7 @@ read-back (message (Default v)) = refl
 read-back (message (Request handle v)) = refl
 read-back (message (Change e)) = refl
 read-back (wrote n) = refl
+read-back (tidied n) = refl
 
 -- Of all answers, whatever their values.
 pub in-parts-injective : (a b : Answer) → inParts a ≡ inParts b → a ≡ b
@@ -79,6 +81,7 @@ plain (loaded n) f = refl
 plain (reported n) f = refl
 plain (message m) f = absurd (f m refl)
 plain (wrote n) f = refl
+plain (tidied n) f = refl
 
 pub in-numbers-injective : (a b : Answer) → NoMessage a → NoMessage b → inNumbers a ≡ inNumbers b → a ≡ b
 in-numbers-injective a b p q e = in-parts-injective a b (plain a p ∙ ap noMessage e ∙ sym (plain b q))

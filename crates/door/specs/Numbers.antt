@@ -1,7 +1,7 @@
 -- An answer in numbers.
 use Prim.Native.Nat.{ℕ}
 use mathlib.Core.Path.{_≡_}
-use Rattle.rules.specs.Answers.{Answer, refused, ok, dropped, kept, grown, shrunk, tight, owner, idle, slots, saved, loaded, reported, message, wrote}
+use Rattle.rules.specs.Answers.{Answer, refused, ok, dropped, kept, grown, shrunk, tight, owner, idle, slots, saved, loaded, reported, message, wrote, tidied}
 use Rattle.rules.specs.declared.Subrates.{Subrates}
 use Rattle.rules.specs.declared.SubrateChange.{SubrateChange}
 use Rattle.rules.specs.declared.Message.{Message}
@@ -37,6 +37,7 @@ inNumbers (loaded n) = saidAs 12 n 0 0
 inNumbers (reported n) = saidAs 13 n 0 0
 inNumbers (message m) = saidAs (kindOf m) 0 0 0
 inNumbers (wrote n) = saidAs 17 n 0 0
+inNumbers (tidied n) = saidAs 18 n 0 0
 
 -- What is said is the answer, in numbers.
 abbrev pub InNumbers : Answer → Said → Type 0
@@ -78,3 +79,4 @@ inParts (saved n) = noMessage (inNumbers (saved n))
 inParts (loaded n) = noMessage (inNumbers (loaded n))
 inParts (reported n) = noMessage (inNumbers (reported n))
 inParts (wrote n) = noMessage (inNumbers (wrote n))
+inParts (tidied n) = noMessage (inNumbers (tidied n))

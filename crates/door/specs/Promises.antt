@@ -3,7 +3,7 @@ use Prim.Native.Nat.{ℕ}
 use mathlib.Core.Path.{_≡_}
 use mathlib.Core.List.{List}
 use Rattle.rules.specs.Good.{Good}
-use Rattle.rules.specs.Answers.{Outcome, Listed, Written}
+use Rattle.rules.specs.Answers.{Outcome, Listed, Written, withoutList}
 use Rattle.door.specs.declared.Said.{Said}
 use Rattle.door.specs.declared.Called.{Called}
 use Rattle.door.specs.Numbers.{inNumbers, InNumbers}
@@ -17,11 +17,7 @@ pub record Leaves (o : Outcome) (r : Called) : Type 0 where
   pub is : r ≡ called o
   pub good : Good (r .schedule)
 
--- The answer and the schedule of a call that fills a lent list.
-abbrev pub withoutList : Listed → Outcome
-withoutList o = record { answer = o .answer; schedule = o .schedule }
-
--- Such a call: the same of these, and every entry of the list is the rule's.
+-- A call that fills a lent list: the same of these, and every entry of the list is the rule's.
 pub record Lists (o : Listed) (after : List ℕ) (r : Called) : Type 0 where
   pub leaves : Leaves (withoutList o) r
   pub list : after ≡ o .list

@@ -5,6 +5,7 @@ ghost use Rattle.rules.specs.Admit.{admit as admitRule};
 ghost use Rattle.rules.specs.Drop.{dropHandle};
 ghost use Rattle.rules.specs.Report.{report as reportRule};
 ghost use Rattle.rules.specs.Reports.{reportAll};
+ghost use Rattle.rules.specs.Tidy.{tidy as tidyRule};
 ghost use Rattle.run.specs.Promises.{Starts};
 ghost use Rattle.reports.specs.Pairs.{reportsOf};
 ghost use Rattle.door.specs.Promises.{Leaves, Lists};
@@ -13,12 +14,14 @@ use crate::saying::admission;
 use crate::saying::dropping;
 use crate::saying::reporting;
 use crate::saying::reporting_all;
+use crate::saying::tidying;
 use reports::report_pairs;
 use rules::Schedule;
 use schedule::admit;
 use schedule::drop;
 use schedule::fresh;
 use schedule::report;
+use tidy::tidy;
 
 /// A fresh schedule: every byte of it is 0.
 #[no_mangle]
@@ -83,6 +86,19 @@ pub extern "C" fn beak_reported_all(s: Schedule, numbers: &[u32], answers: &mut 
     let done = report_pairs(s, numbers, answers);
     let answer = done.answer;
     let said = reporting_all(answer);
+    let schedule = done.schedule;
+    Called { said, schedule }
+}
+
+/// Tidy. The moves are numbers too: handle, old anchor, new anchor.
+#[no_mangle]
+pub extern "C" fn beak_tidied(s: Schedule, moves: &mut [u32]) -> Called
+    requires { ⌜ Good s ⌝ }
+    ensures { λ r. ⌜ Lists (tidyRule s (now (moves .entry))) (now (moves .exit)) r ⌝ }
+{
+    let done = tidy(s, moves);
+    let answer = done.answer;
+    let said = tidying(answer);
     let schedule = done.schedule;
     Called { said, schedule }
 }

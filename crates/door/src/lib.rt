@@ -13,6 +13,7 @@ pub use changing::beak_dropped;
 pub use changing::beak_fresh;
 pub use changing::beak_reported;
 pub use changing::beak_reported_all;
+pub use changing::beak_tidied;
 pub use imaging::beak_loaded;
 pub use imaging::beak_saved;
 pub use messaging::beak_change_written;

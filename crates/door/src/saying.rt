@@ -1,7 +1,7 @@
 //! What each answer is in numbers.
 ghost use mathlib.Core.Path.{_≡_};
 ghost use Rattle.rules.specs.Refusals.{number};
-ghost use Rattle.rules.specs.Answers.{refused as refusedWith, saved as savedAs, wrote as wroteAs, ofAdmission, ofDropping, ofReporting, ofReportingAll, ofOwnership, ofDistance, ofLoading, ofReading};
+ghost use Rattle.rules.specs.Answers.{refused as refusedWith, saved as savedAs, wrote as wroteAs, ofAdmission, ofDropping, ofReporting, ofReportingAll, ofOwnership, ofDistance, ofLoading, ofReading, ofTidying};
 ghost use Rattle.door.specs.Numbers.{saidAs, InNumbers, messageParts, inParts};
 use crate::Read;
 use crate::Said;
@@ -17,6 +17,7 @@ use rules::Reporting;
 use rules::ReportingAll;
 use rules::SubrateChange;
 use rules::Subrates;
+use rules::Tidying;
 use text::refusal_number;
 
 // The kinds of an answer, numbered for ever: a later one comes at the end.
@@ -53,6 +54,8 @@ const REQUEST: u32 = 15;
 const CHANGE: u32 = 16;
 
 const WROTE: u32 = 17;
+
+const TIDIED: u32 = 18;
 
 // The values of a message that there are none of.
 const NO_SUBRATES: Subrates = Subrates {
@@ -135,6 +138,15 @@ pub fn reporting_all(answer: ReportingAll) -> Said
     match answer {
         ReportingAll::Answered(n) => say(REPORTED, n as u32),
         ReportingAll::Refused(r) => refused(r),
+    }
+}
+
+pub fn tidying(answer: Tidying) -> Said
+    ensures { λ r. ⌜ InNumbers (ofTidying answer) r ⌝ }
+{
+    match answer {
+        Tidying::Count(n) => say(TIDIED, n as u32),
+        Tidying::Refused(r) => refused(r),
     }
 }
 
