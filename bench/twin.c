@@ -96,25 +96,45 @@ static int first_by_blocks(const uint8_t *tree, uint32_t k, uint32_t floor) {
     return -1;
 }
 
-static int first_by_stretches(const uint8_t *tree, uint32_t k, uint32_t floor) {
-    uint16_t anchors[256], open[256];
-    uint32_t f = 1u << k;
+static void list_anchors(uint32_t k, uint16_t *anchors) {
+    uint32_t highest = 1u << k >> 1;
     anchors[0] = 0;
-    for (uint32_t p = 0; p < f / 2; p++) {
+    for (uint32_t p = 0; p < highest; p++) {
         uint16_t half = anchors[p] >> 1;
         anchors[2 * p] = half;
-        anchors[2 * p + 1] = half + f / 2;
+        anchors[2 * p + 1] = half + highest;
     }
-    for (uint32_t c = f, free = 0; c-- > 0;) {
-        free = is_set(tree, f + anchors[c]) ? 0 : free + 1;
-        open[c] = free;
-    }
-    for (uint32_t p = 0; p < f; p++) {
-        uint32_t j = 0, free;
-        while (j < floor && (free = open[class_at(k, anchors[p], j)]) > 0) j += free;
+}
+
+static int search(const uint16_t *room, const uint16_t *anchors, uint32_t k, uint32_t floor) {
+    for (uint32_t p = 0; p < 1u << k; p++) {
+        uint32_t j = room[anchors[p]], free;
+        if (j == 0) continue;
+        while (j < floor && (free = room[class_at(k, anchors[p], j)]) > 0) j += free;
         if (j >= floor) return anchors[p];
     }
     return -1;
+}
+
+static int search_row(const uint16_t *row, const uint16_t *anchors, uint32_t k, uint32_t floor) {
+    uint16_t room[256];
+    if (floor <= 16) return search(row, anchors, k, floor);
+    for (uint32_t c = 1u << k, free = 0; c-- > 0;) {
+        free = row[c] == 0 ? 0 : free + 1;
+        room[c] = free;
+    }
+    return search(room, anchors, k, floor);
+}
+
+static int first_by_stretches(const uint8_t *tree, uint32_t k, uint32_t floor) {
+    uint16_t anchors[256], room[256];
+    uint32_t f = 1u << k;
+    list_anchors(k, anchors);
+    for (uint32_t c = f, free = 0; c-- > 0;) {
+        free = is_set(tree, f + anchors[c]) ? 0 : free + 1;
+        room[c] = free;
+    }
+    return search(room, anchors, k, floor);
 }
 
 static int place(const uint8_t *tree, uint32_t k, uint32_t floor) {
@@ -200,6 +220,53 @@ __attribute__((noinline)) static int report_all(struct schedule *s, const struct
         int no = report(s, reports[i].handle, reports[i].sample, &how);
         answers[i] = no != 0 ? (uint32_t)no : 65536u * (how + 1) + s->connections[reports[i].handle].length;
     }
+    return 0;
+}
+
+// ---- tidy
+
+enum { MOVE_WIDTH = 3 };
+
+struct move {
+    uint32_t handle, old, new;
+};
+
+// The row has a 1 for each class that is free.
+static bool arrange_depth(const struct schedule *s, struct schedule *new, uint32_t k, uint16_t *room) {
+    uint16_t anchors[256];
+    uint32_t half = 1u << k >> 1;
+    list_anchors(k, anchors);
+    for (uint32_t c = 0; c < half; c++) room[half + c] = room[c];
+    for (int h = 0; h < 64; h++) {
+        struct connection c = s->connections[h];
+        if (!c.live || c.k != k) continue;
+        int anchor = search_row(room, anchors, k, c.length);
+        if (anchor < 0) return false;
+        for (uint32_t j = 0; j < c.length; j++) room[class_at(k, anchor, j)] = 0;
+        set_run(new->tree, k, anchor, 0, c.length, true);
+        c.anchor = anchor;
+        new->connections[h] = c;
+    }
+    return true;
+}
+
+static bool has_moved(const struct schedule *s, const struct schedule *new, int h) {
+    return s->connections[h].live && s->connections[h].anchor != new->connections[h].anchor;
+}
+
+__attribute__((noinline)) static int tidy(struct schedule *s, struct move *moves, size_t entries, uint32_t *count) {
+    struct schedule new;
+    uint16_t room[256];
+    memset(&new, 0, sizeof new);
+    room[0] = 1;
+    for (uint32_t k = 0; k <= 8; k++)
+        if (!arrange_depth(s, &new, k, room)) return 19;
+    *count = 0;
+    for (int h = 0; h < 64; h++) *count += has_moved(s, &new, h);
+    if (entries < *count) return 14;
+    for (int h = 0; h < 64; h++)
+        if (has_moved(s, &new, h)) *moves++ = (struct move){h, s->connections[h].anchor, new.connections[h].anchor};
+    *s = new;
     return 0;
 }
 
@@ -432,6 +499,23 @@ static void perform_list(struct schedule *s, const char *line) {
     tell(said);
 }
 
+// A line `tidy N`, after its word.
+static void perform_tidy(struct schedule *s, const char *line) {
+    static uint32_t list[400];
+    static char said[8192];
+    size_t n = 0;
+    uint32_t count;
+    sscanf(line, "%zu", &n);
+    memset(list, 0xA5, sizeof list);
+    mark();
+    int no = tidy(s, (struct move *)list, n / MOVE_WIDTH, &count);
+    mark();
+    int at = no == 0 ? sprintf(said, "tidied %u", count) : sprintf(said, "no %d", no);
+    for (size_t i = 0; i < n; i++) at += sprintf(said + at, " %u", list[i]);
+    sprintf(said + at, "\n");
+    tell(said);
+}
+
 static void tell_message(const struct message *m) {
     const struct subrates *v = &m->subrates;
     const struct change *e = &m->change;
@@ -573,6 +657,8 @@ int main(void) {
     for (char *line = strtok(script, "\n"); line != NULL; line = strtok(NULL, "\n")) {
         if (strncmp(line, "reports ", 8) == 0)
             perform_list(&s, line + 8);
+        else if (strncmp(line, "tidy ", 5) == 0)
+            perform_tidy(&s, line + 5);
         else
             perform(&s, line);
     }

@@ -1,18 +1,19 @@
 //! Performs a script as the probe does, each call of the library between two marks: what bench/run counts.
 ghost use mathlib.Core.Path.{_≡_};
 ghost use mathlib.Core.Bool.{true};
-ghost use Prim.Native.Nat.{_≤_};
+ghost use Prim.Native.Nat.{_+_, _*_, _≤_};
 ghost use lib.ListN.{length, take};
 ghost use Rattle.rules.specs.Bytes.{same};
 ghost use Rattle.rules.specs.Text.{text as textOf};
 ghost use Rattle.rules.specs.Good.{Good};
 ghost use Rattle.answer.specs.Promises.{SizeFits};
-ghost use Rattle.lists.specs.Lines.{mostEntries};
+ghost use Rattle.lists.specs.Lines.{longestEntry, mostEntries, mostMoves};
 use answer::put_loading;
 use answer::put_reading;
 use answer::put_reply;
 use answer::put_reporting_all;
 use answer::put_saving;
+use answer::put_tidying;
 use answer::put_writing;
 use hci::read_message;
 use hci::write_message;
@@ -25,8 +26,11 @@ use lists::Asked;
 use lists::LONGEST_LINE;
 use lists::LONGEST_ROW;
 use lists::MOST_ENTRIES;
+use lists::MOST_MOVES;
+use lists::TidyAsked;
 use lists::asked_of;
 use lists::blank;
+use lists::tidy_asked;
 use order::Order;
 use order::order_of;
 use questions::anchor;
@@ -42,6 +46,7 @@ use rules::Reply;
 use rules::ReportingAll;
 use rules::Saving;
 use rules::Schedule;
+use rules::Tidying;
 use schedule::admit;
 use schedule::drop;
 use schedule::fresh;
@@ -55,6 +60,7 @@ use text::find;
 use text::opens;
 use text::put_row;
 use text::read_row;
+use tidy::tidy;
 
 // The place after `singly`: the word's length.
 const AFTER_SINGLY: usize = 6;
@@ -86,14 +92,29 @@ fn tell_loading(answer: Loading) {
     end();
 }
 
+// The list behind an answer's words.
+fn tell_lent(out: &mut [u8], at: usize, list: &[u32])
+    requires { ⌜ at + longestEntry * length (now list) ≤ length (now out) ⌝ }
+{
+    let count = put_row(out, at, list);
+    word(&out[..count]);
+    end();
+}
+
 fn tell_list(answer: ReportingAll, list: &[u32])
     requires { ⌜ length (now list) ≤ mostEntries ⌝ }
 {
     let mut out = [0u8; LONGEST_LINE];
     let at = put_reporting_all(&mut out, 0, answer);
-    let count = put_row(&mut out, at, list);
-    word(&out[..count]);
-    end();
+    tell_lent(&mut out, at, list);
+}
+
+fn tell_moves(answer: Tidying, list: &[u32])
+    requires { ⌜ length (now list) ≤ mostMoves ⌝ }
+{
+    let mut out = [0u8; LONGEST_LINE];
+    let at = put_tidying(&mut out, 0, answer);
+    tell_lent(&mut out, at, list);
 }
 
 fn admitted(
@@ -153,6 +174,20 @@ fn listed(s: Schedule, numbers: &[u32], list: &mut [u32]) -> Schedule
     mark();
     let answer = done.answer;
     tell_list(answer, list);
+    left
+}
+
+fn tidied(s: Schedule, list: &mut [u32]) -> Schedule
+    requires { ⌜ Good s × (length (now list) ≤ mostMoves) ⌝ }
+    ensures { λ r. ⌜ Good r ⌝ }
+{
+    blank(list);
+    mark();
+    let done = tidy(s, list);
+    let left = done.schedule;
+    mark();
+    let answer = done.answer;
+    tell_moves(answer, list);
     left
 }
 
@@ -295,7 +330,7 @@ fn perform(s: Schedule, line: &[u8], bytes: &mut [u8]) -> Schedule
     }
 }
 
-// A line that lends a list of numbers.
+// A line that lends a list of answers.
 fn perform_list(s: Schedule, line: &[u8]) -> Schedule
     requires { ⌜ Good s × (same (take (length (textOf "reports")) (now line)) (textOf "reports") ≡ true) ⌝ }
     ensures { λ r. ⌜ Good r ⌝ }
@@ -309,6 +344,20 @@ fn perform_list(s: Schedule, line: &[u8]) -> Schedule
     };
     let end = 1 + count;
     listed(s, &numbers[1..end], &mut list[..entries])
+}
+
+// A line that lends a list of moves.
+fn perform_tidy(s: Schedule, line: &[u8]) -> Schedule
+    requires { ⌜ Good s × (same (take (length (textOf "tidy")) (now line)) (textOf "tidy") ≡ true) ⌝ }
+    ensures { λ r. ⌜ Good r ⌝ }
+{
+    let mut list = [0u32; MOST_MOVES];
+    let asked = tidy_asked(line);
+    let TidyAsked::Lends(n) = asked else {
+        nothing();
+        return s;
+    };
+    tidied(s, &mut list[..n])
 }
 
 // The word `singly` and the numbers of reports, a line of this program alone.
@@ -344,6 +393,9 @@ fn perform_line(s: Schedule, line: &[u8], bytes: &mut [u8]) -> Schedule
 {
     if opens(line, b"reports") {
         return perform_list(s, line);
+    }
+    if opens(line, b"tidy") {
+        return perform_tidy(s, line);
     }
     if opens(line, b"singly") {
         return perform_singly(s, line);
