@@ -1,5 +1,5 @@
 """For scripts, from the rule sheet's and the requests' words: images, every block under its owner, every node over its blocks; the factor of a range, over all k;
-subrate messages, their bytes and what they may hold."""
+where a connection is placed, over all anchors and blocks, and what a tidy moves; subrate messages, their bytes and what they may hold."""
 
 
 def tree(connections):
@@ -29,6 +29,37 @@ def image(connections):
 def factor(smallest, largest):
     """Of all 6 × 2^k in a range of intervals, k to 8, the largest one's 2^k, or None."""
     return max((2**k for k in range(9) if smallest <= 6 * 2**k <= largest), default=None)
+
+
+def blocks(k, anchor, length):
+    """The blocks b among the 512 that belong to such a connection: (b - A) mod F is less than L."""
+    return {b for b in range(512) if (b - anchor) % 2**k < length}
+
+
+def first_open(connections, k, run):
+    """The first anchor, by the numbers of their nodes, whose whole run belongs to none of the connections, or None."""
+    taken = set().union(*(blocks(*each[1:4]) for each in connections))
+    for node in range(2**k, 2 ** (k + 1)):
+        anchor = sum(2**i for i in range(k) if node & 2 ** (k - 1 - i))
+        if not taken & blocks(k, anchor, run):
+            return anchor
+    return None
+
+
+def tidied(connections):
+    """The connections by rising handle, each at its new anchor, or None where one finds none."""
+    placed = []
+    for handle, k, _, length, *others in sorted(connections, key=lambda each: (2 ** each[1], each[0])):
+        anchor = first_open(placed, k, length)
+        if anchor is None:
+            return None
+        placed.append((handle, k, anchor, length, *others))
+    return sorted(placed)
+
+
+def moves(before, after):
+    """Handle, old anchor and new anchor of each connection whose anchor differs, by rising handle."""
+    return [(old[0], old[2], new[2]) for old, new in zip(sorted(before), sorted(after)) if old[2] != new[2]]
 
 
 def message(word, *numbers):

@@ -1,4 +1,4 @@
-//! Twenty-three slips, one of which can be planted at a time (`peer --fault N`).
+//! Twenty-eight slips, one of which can be planted at a time (`peer --fault N`).
 //! A comparison that does not find each of them is too weak.
 
 #[derive(Clone, Copy, Debug, PartialEq, Eq)]
@@ -51,10 +51,20 @@ pub enum Fault {
     NineUnsound,
     /// 23: load checks 18 after 11.
     FactorAfterOverlap,
+    /// 24: tidy takes the connections by handle alone.
+    TidiedByHandle,
+    /// 25: tidy places the floor, where it is to place the present length.
+    FloorPlaced,
+    /// 26: a tidy that is refused with 19 moves those that found an anchor.
+    PlacedStayMoved,
+    /// 27: a tidy that is refused with 14 moves all the same.
+    ShortListMoves,
+    /// 28: the entries beyond the moves are cleared.
+    RestOfMovesCleared,
 }
 
 /// The faults by number, 1 first.
-pub const FAULTS: [Fault; 23] = [
+pub const FAULTS: [Fault; 28] = [
     Fault::CountingOrder,
     Fault::TowardZero,
     Fault::FirstPeriodOnly,
@@ -78,9 +88,14 @@ pub const FAULTS: [Fault; 23] = [
     Fault::FactorFirst,
     Fault::NineUnsound,
     Fault::FactorAfterOverlap,
+    Fault::TidiedByHandle,
+    Fault::FloorPlaced,
+    Fault::PlacedStayMoved,
+    Fault::ShortListMoves,
+    Fault::RestOfMovesCleared,
 ];
 
-/// The fault with this number, 1 to 23.
+/// The fault with this number, 1 to 28.
 pub fn by_number(number: usize) -> Option<Fault> {
     FAULTS.get(number.checked_sub(1)?).copied()
 }

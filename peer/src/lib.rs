@@ -5,10 +5,11 @@
 //!
 //! * `schedule`: the connections, who owns a block, the tree, and the calls.
 //! * `reports`: a list of reports, and the entries that answer them.
+//! * `tidy`: the connections placed anew, and the list of those that moved.
 //! * `image`: the image's bytes, written and read back with their checks.
 //! * `messages`: the subrate messages of the Core Specification, read and written.
 //! * `script`: the lines of text that drive it, and their answers.
-//! * `fault`: twenty-three slips that can be planted, to show that a comparison finds them.
+//! * `fault`: twenty-eight slips that can be planted, to show that a comparison finds them.
 
 #![forbid(unsafe_code)]
 
@@ -18,3 +19,4 @@ pub mod messages;
 pub mod reports;
 pub mod schedule;
 pub mod script;
+pub mod tidy;

@@ -22,7 +22,7 @@ pub const HANDLES: usize = 64;
 /// subrate factor to 500, and the largest power of two below that is 256.
 pub const LARGEST_K: i64 = 8;
 
-/// The number of a refusal, 1 to 18.
+/// The number of a refusal, 1 to 19.
 pub type Refusal = u32;
 
 /// For each of the 512 blocks: does it belong to someone?
@@ -164,15 +164,7 @@ impl Schedule {
             return Err(5);
         }
 
-        let mut anchors: Vec<i64> = (0..factor).collect();
-        if self.fault != Fault::CountingOrder {
-            anchors.sort_by_key(|&anchor| factor + mirror(anchor, k));
-        }
-        let taken = self.taken();
-        let open = |anchor: &i64| {
-            (0..floor).all(|j| class_free(&taken, (anchor + j).rem_euclid(factor), factor))
-        };
-        let Some(anchor) = anchors.into_iter().find(open) else {
+        let Some(anchor) = first_open(&self.taken(), k, floor, self.fault) else {
             return Err(6);
         };
         self.connections[place] = Some(Connection {
@@ -287,6 +279,19 @@ pub fn taken_by<'a>(connections: impl Iterator<Item = &'a Connection>) -> Taken 
 fn class_free(taken: &Taken, remainder: i64, factor: i64) -> bool {
     let mut blocks = (remainder..BLOCKS).step_by(factor as usize);
     blocks.all(|block| !taken[block as usize])
+}
+
+/// The first anchor, in the order of their node numbers 2^k + mirrored A, whose whole run of so
+/// many blocks is free in all its periods.
+pub fn first_open(taken: &Taken, k: i64, run: i64, fault: Fault) -> Option<i64> {
+    let factor = 1 << k;
+    let mut anchors: Vec<i64> = (0..factor).collect();
+    if fault != Fault::CountingOrder {
+        anchors.sort_by_key(|&anchor| factor + mirror(anchor, k));
+    }
+    let open =
+        |anchor: &i64| (0..run).all(|j| class_free(taken, (anchor + j).rem_euclid(factor), factor));
+    anchors.into_iter().find(open)
 }
 
 /// The lowest k bits of the value in mirrored order.

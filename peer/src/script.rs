@@ -5,6 +5,7 @@ use crate::image;
 use crate::messages::{self, Kind, Message, KINDS};
 use crate::reports::{report_all, Report};
 use crate::schedule::{Moved, Refusal, Schedule, LEAST_INTERVAL};
+use crate::tidy::tidy;
 use std::fmt::Display;
 
 /// A script has at most this many bytes.
@@ -15,7 +16,9 @@ pub const LARGEST_BUFFER: i64 = 2_048;
 pub const FILLING: u8 = 0xA5;
 /// `reports` takes at most this many reports, and lends at most this many entries.
 pub const LONGEST_LIST: usize = 128;
-/// What an entry of a lent list holds before.
+/// `tidy` lends at most this many numbers.
+pub const LONGEST_MOVES: i64 = 400;
+/// What a number of a lent list holds before.
 pub const UNTOUCHED: u32 = 0xA5A5_A5A5;
 
 /// Runs a whole script and gives all that it prints.
@@ -95,6 +98,7 @@ impl Session {
                 Err(refusal) => no(refusal),
             },
             (b"reports", [entries, numbers @ ..]) => reports(schedule, *entries, numbers)?,
+            (b"tidy", &[size]) if size <= LONGEST_MOVES => tidy_into(schedule, size),
             (b"owner", &[block]) => match schedule.owner(block) {
                 Some(handle) => format!("owner {handle}"),
                 None => "idle".to_string(),
@@ -196,6 +200,16 @@ fn reports(schedule: &mut Schedule, entries: i64, numbers: &[i64]) -> Option<Str
         Err(refusal) => no(refusal),
     };
     Some(answer + &listed(&answers))
+}
+
+/// `tidy N`: the answer, and every number of the list afterwards.
+fn tidy_into(schedule: &mut Schedule, size: i64) -> String {
+    let mut list = vec![UNTOUCHED; size as usize];
+    let answer = match tidy(schedule, &mut list) {
+        Ok(moved) => format!("tidied {moved}"),
+        Err(refusal) => no(refusal),
+    };
+    answer + &listed(&list)
 }
 
 /// `state`: a line for each live connection, then `end`.
@@ -350,6 +364,31 @@ mod tests {
         assert_eq!(right("reports 01\nreports 1 0 00\nreports 1 0 x\n"), "bad\n".repeat(3));
         let many = |reports: usize| format!("reports 0{}\n", " 0 0".repeat(reports));
         assert_eq!(right(&(many(128) + &many(129))), "no 13\nbad\n");
+    }
+
+    #[test]
+    fn tidies() {
+        let filled: String = (0..8).map(|handle| format!("admit {handle} 48 1 1\n")).collect();
+        let before = filled + "drop 0\ndrop 4\nadmit 8 24 1 1\n";
+        let stay = |many: usize| " 2779096485".repeat(many);
+        let printed = "ok 8 0 1\nok 8 4 1\nok 8 2 1\nok 8 6 1\nok 8 1 1\nok 8 5 1\nok 8 3 1\n\
+                       ok 8 7 1\nok\nok\nno 6\n";
+        assert_eq!(
+            right(&(before + "tidy 17\ntidy 20\nadmit 8 24 1 1\ntidy 0\ntidy 21\ntidy 0\n")),
+            format!(
+                "{printed}no 14{}\ntidied 6 1 4 0 2 2 4 3 6 2 5 5 6 6 3 1 7 7 5{}\nok 4 3 1\n\
+                 no 14\ntidied 7 1 0 2 2 4 6 3 2 1 5 6 5 6 1 3 7 5 7 8 3 0\ntidied 0\n",
+                stay(17),
+                stay(2)
+            )
+        );
+        assert_eq!(
+            right("admit 0 48 2 2\nadmit 1 24 1 1\nadmit 2 24 1 1\ntidy 0\ntidy 2\n"),
+            format!("ok 8 0 2\nok 4 2 1\nok 4 3 1\nno 19\nno 19{}\n", stay(2))
+        );
+        assert_eq!(right("tidy 0\ntidy 400\n"), format!("tidied 0\ntidied 0{}\n", stay(400)));
+        let bad = "tidy\ntidy \ntidy 401\ntidy 01\ntidy 3 4\ntidy x\ntidy  3\ntidy 3 \ntidy3\n";
+        assert_eq!(right(bad), "bad\n".repeat(9));
     }
 
     #[test]

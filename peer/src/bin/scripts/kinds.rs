@@ -7,6 +7,7 @@ use crate::messages;
 use crate::random::Random;
 use crate::ranges;
 use crate::sheet::Sheet;
+use crate::tidies;
 use peer::image::image;
 use peer::messages::{Kind, Message, KINDS};
 use peer::script::{hex, LONGEST_SCRIPT};
@@ -38,19 +39,21 @@ fn realistic(sheet: &mut Sheet, turn: usize) {
         day(sheet);
     }
     lists_in_turn(sheet, turn);
+    thin_and_tidy(sheet, turn);
     every_range(sheet);
     there_and_back(sheet, &messages::at_the_ends(kind_in_turn(turn)));
     sheet.say("save");
 }
 
 fn day(sheet: &mut Sheet) {
-    match sheet.random.between(0, 21) {
+    match sheet.random.between(0, 22) {
         0..=9 => sheet.do_one(lines::plausible_report),
         10..=14 => sheet.do_one(lines::question),
         15 => sheet.do_one(lines::join),
         16 => sheet.do_one(lines::leave),
         17 => sheet.do_one(lists::of_the_live),
         18 => sheet.do_one(|random, _| messages::any(random)),
+        19 => sheet.do_one(tidies::any),
         _ => sheet.do_one(lines::show),
     };
 }
@@ -63,6 +66,33 @@ fn lists_in_turn(sheet: &mut Sheet, turn: usize) {
         let line = lists::of_kind(&mut sheet.random, schedule, quarter * turn + step);
         sheet.say(line);
         sheet.say("state");
+    }
+}
+
+/// Loggers leave, now and then one comes, and the house is tidied.
+fn thin_and_tidy(sheet: &mut Sheet, turn: usize) {
+    for _ in 0..sheet.random.between(1, 16) {
+        sheet.do_one(lines::leave);
+        if sheet.random.chance(20) {
+            sheet.do_one(lines::join);
+        }
+    }
+    tidies_in_turn(sheet, turn);
+}
+
+/// A tidy with a list that is too short and one with a list that is not, each of the next kind in
+/// each turn, and one when there is nothing to move; and what each leaves.
+fn tidies_in_turn(sheet: &mut Sheet, turn: usize) {
+    let short = turn % tidies::SHORT;
+    let enough = tidies::SHORT + turn % tidies::ENOUGH;
+    let any = sheet.random.place(enough);
+    for which in [short, enough, any] {
+        let schedule = &sheet.session.schedule;
+        let line = tidies::of_kind(&mut sheet.random, schedule, which);
+        sheet.say(line);
+        sheet.do_one(lines::show);
+        sheet.do_one(lines::question);
+        sheet.do_one(lines::question);
     }
 }
 
@@ -103,7 +133,7 @@ fn there_and_back(sheet: &mut Sheet, messages: &[Message]) {
 
 /// The cases that the rule sheet itself names, and such of the requests, each on a fresh schedule.
 #[rustfmt::skip]
-const NAMED: [&[&str]; 10] = [
+const NAMED: [&[&str]; 12] = [
     &["admit 0 48 1 4", "admit 1 48 1 1", "report 0 7500", "owner 9", "owner 7", "anchor 1 6",
         "admit 2 6 1 1", "drop 5"],
     &["admit 0 48 1 1", "admit 1 48 1 1", "admit 2 48 1 1", "admit 3 48 1 1", "admit 4 12 1 1",
@@ -123,6 +153,10 @@ const NAMED: [&[&str]; 10] = [
         "change 14 1 65535 0 0 0 0", "default 2 1 500 1 0 10", "default 2 1 500 0 0 10"],
     &["admit 0 3200 1 1", "drop 0", "admit 0 1536 3200 1 1", "drop 0", "admit 0 1537 3200 1 1",
         "admit 0 3072 3072 1 1", "admit 0 3072 1 257", "admit 0 3072 1 256"],
+    &["admit 0 48 1 1", "admit 1 48 1 1", "admit 2 48 1 1", "admit 3 48 1 1", "admit 4 48 1 1",
+        "admit 5 48 1 1", "admit 6 48 1 1", "admit 7 48 1 1", "drop 0", "drop 4", "admit 8 24 1 1",
+        "tidy 17", "tidy 20", "admit 8 24 1 1", "tidy 0", "tidy 21", "tidy 0"],
+    &["admit 0 48 2 2", "admit 1 24 1 1", "admit 2 24 1 1", "tidy 0", "tidy 9"],
 ];
 
 /// (b) The house is filled until there is no room, thinned, and filled again.
@@ -159,6 +193,9 @@ fn dense(sheet: &mut Sheet, turn: usize) {
             sheet.do_one(lines::leave);
         }
         sheet.do_one(lines::show);
+        if sheet.random.chance(70) {
+            thin_and_tidy(sheet, turn);
+        }
     }
     fill(sheet);
     sheet.say("state");
@@ -217,7 +254,7 @@ fn push_and_let_go(sheet: &mut Sheet) {
 
 /// Lines that are bad whatever the schedule holds.
 #[rustfmt::skip]
-const BAD: [&[u8]; 126] = [
+const BAD: [&[u8]; 143] = [
     b"", b" ", b"  ", b"\t", b"\r", b"\0", b"\xff", b"0", b"48", b"#", b"help", b"ok", b"bad",
     b"a", b"ad", b"admi", b"admit", b"admit ", b"admit 0", b"admit 0 48", b"admit 0 48 1",
     b"admit 0 48 1 ", b"admit 0 6 48 1 4 5", b"admit0 48 1 4", b"admit,0,48,1,4",
@@ -240,6 +277,9 @@ const BAD: [&[u8]; 126] = [
     b"request 15 1 8 8 0 0 10 10", b"request 2049 1 8 8 0 0 10", b"request 15 65536 8 8 0 0 10",
     b"requests 15 1 8 8 0 0 10", b"change", b"change 14 0 1 8 0 0", b"change 14 256 1 8 0 0 10",
     b"change 14 0 65536 8 0 0 10", b"change 4294967295 0 1 8 0 0 10",
+    b"tid", b"tidy", b"tidy ", b"tidy3", b"tidy 401", b"tidy 4294967295", b"tidy 3 4", b"tidy 3 ",
+    b"tidy  3", b"tidy\t3", b"tidy -1", b"tidy x", b"tidy 0x3", b"tidys 3", b"tidied 3", b"Tidy 3",
+    b"TIDY 3",
 ];
 
 /// Numbers that are not numbers of the language.
@@ -445,6 +485,7 @@ fn stored(sheet: &mut Sheet, turn: usize) {
         sheet.load(&image(&extreme));
         look_round(sheet);
     }
+    tidies_in_turn(sheet, turn);
     let size = image(&sheet.session.schedule).len();
     for buffer in [0, size - 1, size, size + sheet.random.place(40)] {
         sheet.say(format!("save {buffer}"));
@@ -485,7 +526,10 @@ fn look_round(sheet: &mut Sheet) {
             sheet.do_one(lines::report);
         }
         4 => drop(sheet.do_one(lines::join)),
-        _ => {}
+        _ => {
+            sheet.do_one(tidies::any);
+            sheet.say("state");
+        }
     }
 }
 
@@ -602,7 +646,11 @@ fn mix(sheet: &mut Sheet) {
         }
         91 => drop(sheet.say("fresh")),
         92 | 93 => fill(sheet),
-        94 | 95 => push_and_let_go(sheet),
+        94 => push_and_let_go(sheet),
+        95 => {
+            let turn = sheet.random.place(tidies::SHORT * tidies::ENOUGH);
+            thin_and_tidy(sheet, turn);
+        }
         96 => {
             let size = sheet.random.place(3_000);
             let line = filling_line(&mut sheet.random, size);

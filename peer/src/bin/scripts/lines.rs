@@ -4,6 +4,7 @@ use crate::lists;
 use crate::messages;
 use crate::random::Random;
 use crate::ranges;
+use crate::tidies;
 use peer::image::image;
 use peer::reports::Report;
 use peer::schedule::{Connection, Schedule, BLOCK_US, GREATEST_INTERVAL, GUARD_US};
@@ -354,7 +355,7 @@ pub fn show(random: &mut Random, schedule: &Schedule) -> String {
 
 /// Any good line but `fresh` and `load`.
 pub fn any(random: &mut Random, schedule: &Schedule) -> String {
-    match random.between(0, 22) {
+    match random.between(0, 23) {
         0 | 1 => join(random, schedule),
         2 | 3 => crowd(random, schedule, 3, 8, 15),
         4 => edge_admission(random, schedule),
@@ -364,6 +365,7 @@ pub fn any(random: &mut Random, schedule: &Schedule) -> String {
         17 => lists::any(random, schedule),
         18 => ranged(random, schedule),
         19 => messages::any(random),
+        20 => tidies::any(random, schedule),
         _ => show(random, schedule),
     }
 }

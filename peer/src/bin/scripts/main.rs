@@ -12,6 +12,7 @@ mod messages;
 mod random;
 mod ranges;
 mod sheet;
+mod tidies;
 
 use std::path::Path;
 use std::process::ExitCode;
