@@ -154,7 +154,7 @@ fn search(room: &[u16; ROW_CLASSES], anchors: &[u16; ROW_CLASSES], k: u32, floor
     Place::Nowhere
 }
 
-// The same of a row that says of each class no more than whether it is free.
+// How many classes are free from each one on, as `measure` has it, of a row that says of each no more than whether it is free.
 fn lengthen(row: &[u16; ROW_CLASSES], k: u32, room: &mut [u16; ROW_CLASSES])
     requires { ⌜ (k ≤ largestK) × (length (now room) ≡ rowClasses) ⌝ }
     ensures { λ _. ⌜ Lengthens k (now (row .entry)) (now (room .exit)) ⌝ }
