@@ -4,7 +4,7 @@ use mathlib.Core.Bool.{Bool, true, false, not, _||_, false≢true}
 use mathlib.Core.Logic.{_≢_, _↔_}
 use mathlib.Core.List.{List}
 use mathlib.Core.Option.{Option, none, some, Option·getD}
-use Prim.Native.Nat.{ℕ, _^_, _<_, _≤_}
+use Prim.Native.Nat.{ℕ, _*_, _^_, _<_, _≤_}
 use native.Mathlib.Omega.{arith}
 use lib.Dec.{ltb, eqb}
 use lib.ListN.{take}
@@ -29,7 +29,7 @@ use Rattle.blocks.proofs.MirrorLaws.{mirror-lt, mirror-mirror}
 use Rattle.rules.specs.Sound.{Numbers, soundConnections}
 use Rattle.blocks.proofs.SoundLaws.{good-connections}
 use Rattle.blocks.proofs.ScheduleLaws.{others, RunFreeEver, run-ever, joined-apart, good-sound, set-good, set-zero, set-other, set-same, inside}
-use Rattle.calls.proofs.RefusalLaws.{Passed, passed-take, decided-cases}
+use Rattle.calls.proofs.RefusalLaws.{Passed, passed-take, passed-both, decided-cases}
 use Rattle.calls.proofs.RangeLaws.{k-given, k-deep, k-unique, range-most}
 use Rattle.blocks.proofs.ClassLaws.{within-depth}
 
@@ -126,7 +126,7 @@ module _ (s : Schedule) (k f c : ℕ) (a : Placeable s k f c) where
         joined-apart (s .connections) h (inside s good h l) (newConnection k (anchorFor s k f) f c) refl (good-sound s good) new-numbers anchor-open
 
 -- ---- an admission
--- The checks before that of room pass, and the range gives k.
+-- Checks 1, 2, 4, 15 and 5 pass, and the range gives k.
 pub record Reached (s : Schedule) (h lo hi f c k : ℕ) : Type 0 where
   pub handle : h ≤ 63
   pub unused : isLive s h ≡ false
@@ -138,6 +138,7 @@ pub record Reached (s : Schedule) (h lo hi f c k : ℕ) : Type 0 where
 pub record Admissible (s : Schedule) (h lo hi f c : ℕ) : Type 0 where
   pub k : ℕ
   pub reached : Reached s h lo hi f c k
+  pub within : 2 * c ≤ 2 ^ k
   pub placeable : Placeable s k f c
 
 -- From the checks, one after the other; and back.
@@ -161,13 +162,25 @@ module _ (s : Schedule) (h lo hi f c : ℕ) where
   passed k r =
       (le-ltb 63 h (r .handle), (r .unused, (ap not (r .range), (ap isNone (r .given), (rw (k-given lo hi k (r .given)) (r .share), tt)))))
 
+  -- With 20 they are those before the check of room.
+  pub reached-within : Passed (take 6 (admitChecks s h lo hi f c)) → (k : ℕ) × Reached s h lo hi f c k × (2 * c ≤ 2 ^ k)
+  unfolding admitChecks
+  reached-within p =
+      let w = reached (passed-take 5 (take 6 (admitChecks s h lo hi f c)) p) in
+      (w .0, w .1, ltb-false (2 ^ w .0) (2 * c) (rw (k-given lo hi (w .0) (w .1 .given)) at (p .1 .1 .1 .1 .1 .0)))
+
+  pub passed-within : (k : ℕ) → Reached s h lo hi f c k → 2 * c ≤ 2 ^ k → Passed (take 6 (admitChecks s h lo hi f c))
+  unfolding admitChecks
+  passed-within k r l =
+      passed-both 5 (take 6 (admitChecks s h lo hi f c)) (passed k r) (rw (k-given lo hi k (r .given)) (le-ltb (2 ^ k) (2 * c) l), tt)
+
 pub admit-cases {ℓ} : (s : Schedule) (h lo hi f c : ℕ) (P : Outcome → Type ℓ) → ((n : ℕ) → P (refusing s n))
     → ((a : Admissible s h lo hi f c) → P (admitDone s h (a .k) f c)) → P (admit s h lo hi f c)
 unfolding admit admitChecks
 admit-cases s h lo hi f c P no′ yes′ =
     decided-cases P (admitChecks s h lo hi f c) (refusing s) (admitDone s h (kFor lo hi) f c) (λ why. no′ (number why))
     (λ p.
-    let w = reached s h lo hi f c (passed-take 5 (admitChecks s h lo hi f c) p) in
+    let w = reached-within s h lo hi f c (passed-take 6 (admitChecks s h lo hi f c) p) in
     let r = w .1 in
     let q = k-given lo hi (w .0) (r .given) in
     subst⁻¹ (λ (k : ℕ). P (admitDone s h k f c)) q
@@ -175,7 +188,8 @@ admit-cases s h lo hi f c P no′ yes′ =
     (record {
       k = w .0;
       reached = r;
-      placeable = record { deep = k-deep lo hi (w .0) (r .given); share = r .share; place = is-some _ (rw q at (p .1 .1 .1 .1 .1 .0)) };
+      within = w .2;
+      placeable = record { deep = k-deep lo hi (w .0) (r .given); share = r .share; place = is-some _ (rw q at (p .1 .1 .1 .1 .1 .1 .0)) };
     })))
 
 -- A range that has 1,536 in it gives F 256,

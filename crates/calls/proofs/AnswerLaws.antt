@@ -7,7 +7,7 @@ use native.Mathlib.Omega.{arith}
 use lib.Dec.{eqb, lit<}
 use lib.ListN.{getD}
 use Rattle.rules.specs.declared.Refusal.{Refusal}
-use Rattle.rules.specs.declared.Refusal.the-variants.{HandleAbove63, HandleLive, HandleNotLive, IntervalOutside, ShareWrong, NoOpenAnchor, SampleAboveRun, BufferShort, RecordsWrong, NumbersUnsound, BlockOwnedTwice, TreeDiffers, ReportsMany, ListShort, NoInterval, MessageWrong, ValuesForbidden, FactorIllegal, NoAnchorForAll}
+use Rattle.rules.specs.declared.Refusal.the-variants.{HandleAbove63, HandleLive, HandleNotLive, IntervalOutside, ShareWrong, NoOpenAnchor, SampleAboveRun, BufferShort, RecordsWrong, NumbersUnsound, BlockOwnedTwice, TreeDiffers, ReportsMany, ListShort, NoInterval, MessageWrong, ValuesForbidden, FactorIllegal, NoAnchorForAll, CeilingAboveHalf}
 use Rattle.rules.specs.declared.Admission.{Admission}
 use Rattle.rules.specs.declared.Admission.the-variants.{Placed, Refused as AdmissionRefused}
 use Rattle.rules.specs.declared.Dropping.{Dropping}
@@ -56,7 +56,8 @@ refusalOf n =
     (or SampleAboveRun (or BufferShort (or RecordsWrong
     (or NumbersUnsound (or BlockOwnedTwice (or TreeDiffers
     (or ReportsMany (or ListShort (or NoInterval
-    (or MessageWrong (or ValuesForbidden (or FactorIllegal NoAnchorForAll)))))))))))))))))
+    (or MessageWrong (or ValuesForbidden (or FactorIllegal
+    (or NoAnchorForAll CeilingAboveHalf))))))))))))))))))
 
 refusal-back : (r : Refusal) → refusalOf (number r) ≡ r
 unfolding refusalOf
@@ -79,6 +80,7 @@ refusal-back MessageWrong = refl
 refusal-back ValuesForbidden = refl
 refusal-back FactorIllegal = refl
 refusal-back NoAnchorForAll = refl
+refusal-back CeilingAboveHalf = refl
 
 pub number-injective : (a b : Refusal) → number a ≡ number b → a ≡ b
 number-injective a b e = undone number refusalOf refusal-back e
@@ -104,6 +106,7 @@ number-small MessageWrong = lit< tt
 number-small ValuesForbidden = lit< tt
 number-small FactorIllegal = lit< tt
 number-small NoAnchorForAll = lit< tt
+number-small CeilingAboveHalf = lit< tt
 
 -- ---- the answers: a number for each of the sheet's words, and the values beside it
 word : Answer → ℕ

@@ -4,6 +4,7 @@ pub mod AnswerLaws
 pub mod FactorLaws
 pub mod RangeLaws
 pub mod AdmitLaws
+pub mod HalfLaws
 pub mod ArrangeLaws
 pub mod DropLaws
 pub mod MeterLaws

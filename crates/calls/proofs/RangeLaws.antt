@@ -2,7 +2,7 @@
 use mathlib.Core.Path.{_≡_, refl, sym, ap, _∙_}
 use mathlib.Core.Bool.{Bool, true, false, not, _&&_, cond, false≢true}
 use mathlib.Core.Logic.{by-cases, _↔_, _⊎_, inl, inr, ⊎-elim}
-use mathlib.Core.List.{List, [], _∷_}
+use mathlib.Core.List.{List, _∷_}
 use mathlib.Core.Option.{Option, none, some, Option·getD}
 use Prim.Native.Nat.{ℕ, suc, _*_, _^_, _<_, _≤_}
 use native.Mathlib.Decide.{decLe, decLt}
@@ -13,14 +13,14 @@ use lib.ListN.{length, getD, take}
 use borrow.Author.Tests.{le-leb, lt-leb, leb-true, le-ltb, ltb-false, not-false}
 use Rattle.rules.specs.declared.Schedule.{Schedule}
 use Rattle.rules.specs.declared.Command.the-variants.{Admit}
-use Rattle.rules.specs.declared.Refusal.the-variants.{HandleAbove63, HandleLive, IntervalOutside, NoInterval, ShareWrong, NoOpenAnchor}
+use Rattle.rules.specs.declared.Refusal.the-variants.{HandleAbove63, HandleLive, IntervalOutside, NoInterval}
 use Rattle.rules.specs.Time.{blockSlots}
 use Rattle.rules.specs.Core.{leastInterval, isInterval, isRange, baseInterval, subratedInterval}
 use Rattle.rules.specs.Ownership.{largestK, subrating, taken}
 use Rattle.rules.specs.Refusals.{number, Check, check, decided}
 use Rattle.rules.specs.Answers.{Outcome, refused, refusing}
 use Rattle.rules.specs.Handles.{aboveHandles, isLive}
-use Rattle.rules.specs.Admit.{intervalOutside, kOf, inRange, kIn, noInterval, kFor, shareWrong, noOpenAnchor, newConnection, admitChecks, admitDone, admit}
+use Rattle.rules.specs.Admit.{intervalOutside, kOf, inRange, kIn, noInterval, kFor, newConnection, factorChecks, admitChecks, admitDone, admit}
 use Rattle.rules.specs.Below.{isNone}
 use Rattle.rules.specs.Obey.{singleFrom, obey}
 use Rattle.basics.proofs.BoolLaws.{both, is-false}
@@ -293,11 +293,11 @@ single-range i = go (isInterval i) refl
     go false e = is-false (isRange singleFrom i) (λ r. false≢true (sym e ∙ range-bounds singleFrom i r .1)) ∙ sym e
 
 module _ (s : Schedule) (h i f c : ℕ) where
-  -- The checks that follow k,
+  -- The checks that follow k.
   abbrev afterK : ℕ → List Check
-  afterK k = check ShareWrong (shareWrong f c (2 ^ k)) ∷ check NoOpenAnchor (noOpenAnchor (taken (s .connections)) k f) ∷ []
+  afterK k = factorChecks (taken (s .connections)) k f c
 
-  -- and what is decided from 4 on, where v says whether it passes: by the range, and by the interval.
+  -- What is decided from 4 on, where v says whether it passes: by the range, and by the interval.
   abbrev fromRange : Bool → Outcome
   fromRange v =
       decided (check IntervalOutside (not v) ∷ check NoInterval (noInterval singleFrom i) ∷ afterK (kFor singleFrom i)) (refusing s) (admitDone s h (kFor singleFrom i) f c)
@@ -313,8 +313,8 @@ module _ (s : Schedule) (h i f c : ℕ) where
       decided-after _ _ (refusing s) _ _ _
       (decided-skip _ _ (refusing s) _ (ap isNone g) ∙ ap (λ (k : ℕ). decided (afterK k) (refusing s) (admitDone s h k f c)) (k-given singleFrom i (kOf i) g))
 
-  -- So the command is as the rule sheet has it: "Checks 1, 2, 4, 5, 6", 4 is of the interval, and k is the largest, now at most 8, with 6 × 2^k not
-  -- above it.
+  -- So the command is as the rule sheet has it, with 20 "after 5 and before 6": "Checks 1, 2, 4, 5, 6", 4 is of the interval, and k is the largest, now at
+  -- most 8, with 6 × 2^k not above it.
   abbrev sheetChecks : List Check
   sheetChecks = check HandleAbove63 (aboveHandles h) ∷ check HandleLive (isLive s h) ∷ check IntervalOutside (not (isInterval i)) ∷ afterK (kOf i)
 

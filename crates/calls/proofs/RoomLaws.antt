@@ -3,7 +3,7 @@ use mathlib.Core.Path.{_≡_, refl, sym, ap, subst, _∙_}
 use mathlib.Core.Bool.{true}
 use mathlib.Core.Logic.{_↔_}
 use mathlib.Core.Option.{Option, none, some}
-use Prim.Native.Nat.{ℕ, _^_, _<_, _≤_}
+use Prim.Native.Nat.{ℕ, _*_, _^_, _<_, _≤_}
 use native.Mathlib.Omega.{arith}
 use Rattle.rules.specs.declared.Schedule.{Schedule}
 use Rattle.rules.specs.declared.Refusal.the-variants.{NoOpenAnchor}
@@ -19,14 +19,15 @@ use Rattle.calls.proofs.RefusalLaws.{passed-both, decided-passed}
 use Rattle.calls.proofs.RangeLaws.{k-given, k-deep, k-unique, admit-refused-at}
 use Rattle.blocks.proofs.MirrorLaws.{mirror-mirror}
 use Rattle.blocks.proofs.ScheduleLaws.{RunFreeEver}
-use Rattle.calls.proofs.AdmitLaws.{first-ever, none-ever, Placeable, Reached, reached, passed, admit-cases, anchor-given, anchor-small, anchor-free}
+use Rattle.calls.proofs.AdmitLaws.{first-ever, none-ever, Placeable, Reached, reached-within, passed-within, admit-cases, anchor-given, anchor-small, anchor-free}
 use Rattle.blocks.proofs.ClassLaws.{within-depth}
 use Rattle.blocks.proofs.SoundLaws.{good-connections}
 
--- The room check is reached, and no anchor below F has its whole run free in endless time.
+-- The checks before that of room pass, 20 the last of them, and no anchor below F has its whole run free in endless time.
 pub record NoRoom (s : Schedule) (h lo hi f c : ℕ) : Type 0 where
   pub k : ℕ
   pub reached : Reached s h lo hi f c k
+  pub within : 2 * c ≤ 2 ^ k
   pub shut : (A : ℕ) → A < 2 ^ k → RunFreeEver (s .connections) k f A → ⊥
 
 module _ (s : Schedule) (good : Good s) (k : ℕ) (deep : k ≤ largestK) (f : ℕ) where
@@ -37,23 +38,24 @@ module _ (s : Schedule) (good : Good s) (h lo hi f c : ℕ) where
   pub no-room-exactly : (admit s h lo hi f c .answer ≡ refused (number NoOpenAnchor)) ↔ NoRoom s h lo hi f c
   unfolding admitChecks
   no-room-exactly =
-      let r = admit-refused-at s h lo hi f c 5 (check NoOpenAnchor true) (omega arith) in (
+      let r = admit-refused-at s h lo hi f c 6 (check NoOpenAnchor true) (omega arith) in (
         λ e.
             let w = r .0 e in
-            let g = reached s h lo hi f c (w .0) in
+            let g = reached-within s h lo hi f c (w .0) in
             let given = g .1 .given in
             record {
               k = g .0;
               reached = g .1;
+              within = g .2;
               shut = none-shut s good (g .0) (k-deep lo hi (g .0) given) f .0 (is-none _ (rw (k-given lo hi (g .0) given) at (w .1)));
             },
         λ n.
             let given = n .reached .given in
-            r .1 (passed s h lo hi f c (n .k) (n .reached), rw (k-given lo hi (n .k) given) (ap isNone (none-shut s good (n .k) (k-deep lo hi (n .k) given) f .1 (n .shut)))),
+            r .1 (passed-within s h lo hi f c (n .k) (n .reached) (n .within), rw (k-given lo hi (n .k) given) (ap isNone (none-shut s good (n .k) (k-deep lo hi (n .k) given) f .1 (n .shut)))),
       )
 
 -- Where it is reached, it is accepted exactly if some anchor has its whole run free.
-module _ (s : Schedule) (good : Good s) (h lo hi f c k : ℕ) (r : Reached s h lo hi f c k) where
+module _ (s : Schedule) (good : Good s) (h lo hi f c k : ℕ) (r : Reached s h lo hi f c k) (l : 2 * c ≤ 2 ^ k) where
   abbrev Accepted : Outcome → Type 0
   Accepted o = (F : ℕ) × (A : ℕ) × (L : ℕ) × (o .answer ≡ ok F A L)
 
@@ -64,7 +66,7 @@ module _ (s : Schedule) (good : Good s) (h lo hi f c k : ℕ) (r : Reached s h l
       let checks = admitChecks s h lo hi f c in
       let done =
       decided-passed checks (refusing s) (admitDone s h (kFor lo hi) f c)
-      (passed-both 5 checks (passed s h lo hi f c k r) (rw (k-given lo hi k (r .given)) (ap isNone e), tt)) in
+      (passed-both 6 checks (passed-within s h lo hi f c k r l) (rw (k-given lo hi k (r .given)) (ap isNone e), tt)) in
       (2 ^ kFor lo hi, anchorFor s (kFor lo hi) f, f, ap (λ (o : Outcome). o .answer) done)
 
   pub room-exactly : Accepted (admit s h lo hi f c) ↔ ((A : ℕ) × (A < 2 ^ k) × RunFreeEver (s .connections) k f A)

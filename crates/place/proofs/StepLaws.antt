@@ -2,18 +2,18 @@
 use mathlib.Core.Path.{_≡_, refl, sym, ap, _∙_}
 use mathlib.Core.Bool.{Bool, true, false, not, _||_, cond, false≢true}
 use mathlib.Core.Option.{Option, none, some}
-use Prim.Native.Nat.{ℕ, _*_, _^_, _<_, _≤_}
+use Prim.Native.Nat.{ℕ, _*_, _/_, _^_, _<_, _≤_}
 use native.Mathlib.Omega.{arith}
 use lib.Dec.{ltb}
 use borrow.Author.Tests.{le-leb, lt-leb, lt-ltb, le-ltb, ltb-true, ltb-false, eq-eqb, ne-eqb, not-false}
 use Rattle.rules.specs.Ownership.{largestK}
-use Rattle.rules.specs.declared.Refusal.the-variants.{HandleLive, IntervalOutside, NoInterval, ShareWrong, NoOpenAnchor}
+use Rattle.rules.specs.declared.Refusal.the-variants.{HandleLive, IntervalOutside, NoInterval, ShareWrong, CeilingAboveHalf, NoOpenAnchor}
 use Rattle.rules.specs.Core.{isInterval, isRange}
 use Rattle.rules.specs.Mirror.{mirrored}
 use Rattle.rules.specs.Refusals.{number}
-use Rattle.rules.specs.Admit.{intervalOutside, kOf, kIn, shareWrong, firstOpen}
+use Rattle.rules.specs.Admit.{intervalOutside, kOf, kIn, shareWrong, ceilingAboveHalf, firstOpen}
 use Rattle.rules.specs.Steps.{Step, gives, places, passes, refuses}
-use Rattle.place.specs.Steps.{intervalStep, smallestStep, rangeStep, shareStep, placeAt, placeStep, planStep}
+use Rattle.place.specs.Steps.{intervalStep, smallestStep, rangeStep, shareStep, halfStep, placeAt, placeStep, planStep}
 use Rattle.basics.proofs.BoolLaws.{is-false, neither}
 use Rattle.calls.proofs.RangeLaws.{interval-bounds, interval-is, range-bounds, range-is, k-is, k-most, k-held, k-missed}
 
@@ -72,6 +72,16 @@ module _ (floor ceiling F : ℕ) where
   pub share-right : (floor ≡ 0 → ⊥) → floor ≤ ceiling → ceiling ≤ F → passes ≡ shareStep floor ceiling F
   unfolding shareStep
   share-right e h l = rw (ne-eqb floor 0 e, le-ltb ceiling floor h, le-ltb F ceiling l)
+
+-- Half of F rounded down serves for all numbers.
+module _ (ceiling F : ℕ) where
+  pub half-above : F / 2 < ceiling → refuses (number CeilingAboveHalf) ≡ halfStep ceiling F
+  unfolding halfStep
+  half-above h = rw (lt-ltb F (2 * ceiling) (omega arith))
+
+  pub half-within : ceiling ≤ F / 2 → passes ≡ halfStep ceiling F
+  unfolding halfStep
+  half-within h = rw (le-ltb F (2 * ceiling) (omega arith))
 
 -- ---- what the answer of a step tells
 tells : (b : Bool) (x y z : Step) → z ≡ cond b x y → (z ≡ x → ⊥) → (b ≡ false) × (z ≡ y)
@@ -138,6 +148,14 @@ pub wrong-told : (f c F : ℕ) → refuses (number ShareWrong) ≡ shareStep f c
 unfolding shareStep
 wrong-told f c F e = step-refused (shareWrong f c F) (number ShareWrong) e
 
+pub half-told : (c F : ℕ) → passes ≡ halfStep c F → ceilingAboveHalf c F ≡ false
+unfolding halfStep
+half-told c F e = step-passed (ceilingAboveHalf c F) (number CeilingAboveHalf) e
+
+pub above-told : (c F : ℕ) → refuses (number CeilingAboveHalf) ≡ halfStep c F → ceilingAboveHalf c F ≡ true
+unfolding halfStep
+above-told c F e = step-refused (ceilingAboveHalf c F) (number CeilingAboveHalf) e
+
 pub place-told : (f : ℕ → Bool) (k n A : ℕ) → gives A ≡ placeStep f k n → (p : ℕ) × (firstOpen f k n ≡ some p) × (A ≡ mirrored k p)
 unfolding placeStep
 place-told f k n A e = go (firstOpen f k n) refl e
@@ -176,10 +194,15 @@ module _ (f : ℕ → Bool) (lo hi floor ceiling : ℕ) where
         plan-5 w = rw (l, o, e, w)
 
         module _ (w : shareWrong floor ceiling (2 ^ k) ≡ false) where
-          pub plan-6 : firstOpen f k floor ≡ none → refuses (number NoOpenAnchor) ≡ planStep live f lo hi floor ceiling
+          pub plan-20 : ceilingAboveHalf ceiling (2 ^ k) ≡ true → refuses (number CeilingAboveHalf) ≡ planStep live f lo hi floor ceiling
           unfolding planStep
-          plan-6 p = rw (l, o, e, w, p)
+          plan-20 t = rw (l, o, e, w, t)
 
-          pub plan-ok : (p A : ℕ) → firstOpen f k floor ≡ some p → A ≡ mirrored k p → places k A ≡ planStep live f lo hi floor ceiling
-          unfolding planStep
-          plan-ok p A q a = rw (l, o, e, w, q, a)
+          module _ (t : ceilingAboveHalf ceiling (2 ^ k) ≡ false) where
+            pub plan-6 : firstOpen f k floor ≡ none → refuses (number NoOpenAnchor) ≡ planStep live f lo hi floor ceiling
+            unfolding planStep
+            plan-6 p = rw (l, o, e, w, t, p)
+
+            pub plan-ok : (p A : ℕ) → firstOpen f k floor ≡ some p → A ≡ mirrored k p → places k A ≡ planStep live f lo hi floor ceiling
+            unfolding planStep
+            plan-ok p A q a = rw (l, o, e, w, t, q, a)

@@ -3,7 +3,7 @@ use Prim.Native.Nat.{ℕ, _*_, _^_}
 use mathlib.Core.Bool.{Bool, cond, _||_, not}
 use mathlib.Core.Option.{Option, none, some, Option·getD}
 use lib.Dec.{ltb}
-use Rattle.rules.specs.declared.Refusal.the-variants.{IntervalOutside, NoInterval, ShareWrong, NoOpenAnchor}
+use Rattle.rules.specs.declared.Refusal.the-variants.{IntervalOutside, NoInterval, ShareWrong, CeilingAboveHalf, NoOpenAnchor}
 use Rattle.rules.specs.declared.Interval.{Interval}
 use Rattle.rules.specs.declared.Interval.the-variants.{Gives, Outside}
 use Rattle.rules.specs.declared.Smallest.{Smallest}
@@ -12,6 +12,8 @@ use Rattle.rules.specs.declared.Range.{Range}
 use Rattle.rules.specs.declared.Range.the-variants.{Holds, Misses}
 use Rattle.rules.specs.declared.Share.{Share}
 use Rattle.rules.specs.declared.Share.the-variants.{Fits, Wrong}
+use Rattle.rules.specs.declared.Half.{Half}
+use Rattle.rules.specs.declared.Half.the-variants.{Within as HalfWithin, Above}
 use Rattle.rules.specs.declared.Place.{Place}
 use Rattle.rules.specs.declared.Place.the-variants.{At, Nowhere}
 use Rattle.rules.specs.declared.Plan.{Plan}
@@ -19,7 +21,7 @@ use Rattle.rules.specs.declared.Plan.the-variants.{At as PlanAt, Refused as Pla
 use Rattle.rules.specs.Time.{blockSlots}
 use Rattle.rules.specs.Core.{leastInterval, isInterval, isRange}
 use Rattle.rules.specs.Mirror.{mirrored}
-use Rattle.rules.specs.Admit.{kOf, kIn, kFor, shareWrong, firstOpen, placeChecks}
+use Rattle.rules.specs.Admit.{kOf, kIn, kFor, shareWrong, ceilingAboveHalf, firstOpen, placeChecks}
 use Rattle.rules.specs.Refusals.{number, decided}
 use Rattle.rules.specs.Steps.{Step, gives, places, passes, refuses}
 
@@ -39,6 +41,10 @@ ofRange Misses = refuses (number NoInterval)
 abbrev pub ofShare : Share → Step
 ofShare Fits = passes
 ofShare Wrong = refuses (number ShareWrong)
+
+abbrev pub ofHalf : Half → Step
+ofHalf HalfWithin = passes
+ofHalf Above = refuses (number CeilingAboveHalf)
 
 abbrev pub ofPlace : Place → Step
 ofPlace (At A) = gives A
@@ -65,6 +71,9 @@ rangeStep smallest F = cond (ltb (blockSlots * F) smallest) (refuses (number NoI
 unfoldable pub shareStep : ℕ → ℕ → ℕ → Step
 shareStep floor ceiling F = cond (shareWrong floor ceiling F) (refuses (number ShareWrong)) passes
 
+unfoldable pub halfStep : ℕ → ℕ → Step
+halfStep ceiling F = cond (ceilingAboveHalf ceiling F) (refuses (number CeilingAboveHalf)) passes
+
 abbrev pub placeAt : ℕ → Option ℕ → Step
 placeAt k none = refuses (number NoOpenAnchor)
 placeAt k (some p) = gives (mirrored k p)
@@ -73,7 +82,7 @@ unfoldable pub placeStep : (ℕ → Bool) → ℕ → ℕ → Step
 unfolding firstOpen
 placeStep taken k floor = placeAt k (firstOpen taken k floor)
 
--- Where an admission goes once its handle is in range, checks 2, 4, 15, 5, 6: the k of its factor and its anchor.
+-- Where an admission goes once its handle is in range, checks 2, 4, 15, 5, 20, 6: the k of its factor and its anchor.
 unfoldable pub planStep : Bool → (ℕ → Bool) → ℕ → ℕ → ℕ → ℕ → Step
 unfolding isRange kIn firstOpen decided
 planStep live taken smallest largest floor ceiling =

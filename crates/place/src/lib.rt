@@ -1,12 +1,13 @@
-//! Where an admission goes: checks 2, 4, 15, 5, 6, and the search for the first open anchor.
+//! Where an admission goes: checks 2, 4, 15, 5, 20, 6, and the search for the first open anchor.
 ghost use mathlib.Core.Path.{_≡_};
 ghost use Prim.Native.Nat.{_<_, _≤_, _^_};
 ghost use lib.ListN.{length};
 ghost use Rattle.rules.specs.Ownership.{largestK};
-ghost use Rattle.place.specs.Steps.{ofInterval, ofSmallest, ofRange, ofShare, intervalStep, smallestStep, rangeStep, shareStep};
+ghost use Rattle.place.specs.Steps.{ofInterval, ofSmallest, ofRange, ofShare, ofHalf, intervalStep, smallestStep, rangeStep, shareStep, halfStep};
 ghost use Rattle.tree.specs.Promises.{IsTree};
 ghost use Rattle.place.specs.Promises.{rowClasses, Anchors, Measures, Lengthens, IsRoom, Searches, FindsFirst, Plans};
 use rules::BLOCK_SLOTS;
+use rules::Half;
 use rules::Interval;
 use rules::LARGEST_K;
 use rules::LEAST_INTERVAL;
@@ -81,6 +82,16 @@ fn share_of(floor: u32, ceiling: u32, f: u32) -> Share
         return Share::Wrong;
     }
     Share::Fits
+}
+
+// Twice the ceiling is above F exactly if the ceiling is above half of F, rounded down: so nothing is doubled, and any two numbers will do.
+fn half_of(ceiling: u32, f: u32) -> Half
+    ensures { λ r. ⌜ ofHalf r ≡ halfStep ceiling f ⌝ }
+{
+    if f / 2 < ceiling {
+        return Half::Above;
+    }
+    Half::Within
 }
 
 /// The anchors of a depth in node order. Those of places 2p and 2p + 1 are that of p, moved down a bit, without the highest
@@ -265,6 +276,9 @@ pub fn plan(
     };
     let Share::Fits = share_of(floor, ceiling, f) else {
         return Plan::Refused(Refusal::ShareWrong);
+    };
+    let Half::Within = half_of(ceiling, f) else {
+        return Plan::Refused(Refusal::CeilingAboveHalf);
     };
     let Place::At(anchor) = first_open(tree, k as u32, floor) else {
         return Plan::Refused(Refusal::NoOpenAnchor);

@@ -18,8 +18,7 @@ range smallest largest = says (admit fresh 0 smallest largest 1 1 .answer)
 given : List Row
 unfolding range
 given =
-    range 6 6 ∼ says (ok 1 0 1)
-    ∷ range 12 12 ∼ says (ok 2 0 1)
+    range 12 12 ∼ says (ok 2 0 1)
     ∷ range 13 24 ∼ says (ok 4 0 1)
     ∷ range 12 30 ∼ says (ok 4 0 1)
     ∷ range 6 48 ∼ says (ok 8 0 1)
@@ -42,6 +41,11 @@ none =
     ∷ range 3200 3200 ∼ says (refused 15)
     ∷ []
 
+-- "that turns F 1 away altogether": ranges whose longest interval is 6.
+whole : List Row
+unfolding range
+whole = range 6 6 ∼ says (refused 20) ∷ range 6 11 ∼ says (refused 20) ∷ []
+
 -- "either bound outside 6 to 3,200 or smallest above largest"
 outside : List Row
 unfolding range
@@ -53,8 +57,8 @@ outside =
     ∷ []
 
 pub ranges : List Row
-unfolding given none outside
-ranges = given ++ none ++ outside
+unfolding given none whole outside
+ranges = given ++ none ++ whole ++ outside
 
 pub table-ranges : map (λ (r : Row). r .given) ranges ≡ map (λ (r : Row). r .sheet) ranges
 unfolding ranges

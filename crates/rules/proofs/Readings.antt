@@ -37,15 +37,17 @@ unfolding neighbours sound
 neighbours-sound = refl
 
 -- The checks go in order: where two would refuse, the first gives its number. An admission of a handle above 63 with everything else wrong, of one that
--- is live, of bounds in the wrong order between which there is no interval, of such a range and a share, of a share and no room;
+-- is live, of bounds in the wrong order between which there is no interval, of such a range and a share, of a share and
+-- a ceiling above half, of such a ceiling and no room, of no room alone;
 pub admission-in-order : (admit neighbours 64 11 7 0 0 .answer ≡ refused 1)
     × (admit neighbours 0 11 7 0 0 .answer ≡ refused 2)
     × (admit neighbours 2 11 7 0 0 .answer ≡ refused 4)
     × (admit neighbours 2 7 11 0 0 .answer ≡ refused 15)
-    × (admit neighbours 2 6 11 0 0 .answer ≡ refused 5)
-    × (admit neighbours 2 6 11 1 1 .answer ≡ refused 6)
+    × (admit neighbours 2 6 11 0 1 .answer ≡ refused 5)
+    × (admit neighbours 2 6 11 1 1 .answer ≡ refused 20)
+    × (admit neighbours 2 6 12 1 1 .answer ≡ refused 6)
 unfolding admit neighbours
-admission-in-order = (refl, refl, refl, refl, refl, refl)
+admission-in-order = (refl, refl, refl, refl, refl, refl, refl)
 
 -- a report of a handle above 63, of one that is not live, of a sample above its run.
 pub report-in-order : (report neighbours 64 1 .answer ≡ refused 1) × (report neighbours 2 1 .answer ≡ refused 3) × (report neighbours 0 7501 .answer ≡ refused 7)

@@ -1,5 +1,5 @@
--- The table P: every value that the rule sheet marks P, as one table under one statement.
-use Prim.Native.Nat.{ℕ}
+-- The table P: every value that the rule sheet marks P, as the requests leave it, and those of 20, as one table under one statement.
+use Prim.Native.Nat.{ℕ, _^_}
 use mathlib.Core.Path.{_≡_, refl}
 use mathlib.Core.Bool.{true}
 use mathlib.Core.List.{List, [], _∷_, _++_, map}
@@ -10,6 +10,7 @@ use Rattle.rules.specs.Sound.{sound}
 use Rattle.rules.specs.Good.{fresh, withConnections, withConnection}
 use Rattle.rules.specs.Answers.{Answer, refused, ok, shrunk, owner}
 use Rattle.rules.specs.Handles.{connection}
+use Rattle.rules.specs.Admit.{kOf}
 use Rattle.rules.specs.Obey.{obey}
 use Rattle.rules.specs.Meter.{moved, need}
 use Rattle.rules.specs.Report.{report}
@@ -29,10 +30,14 @@ infix 70 _∼_
 abbrev pub _∼_ : Entry → Entry → Row
 given ∼ sheet = record { given = given; sheet = sheet }
 
--- The answer of an admission of one interval whose floor and ceiling are the share, and the schedule after it.
-admits : Schedule → ℕ → ℕ → ℕ → Entry
+-- The answer of an admission of one interval; that of one whose floor and ceiling are the share, and the schedule after it.
+asks : Schedule → ℕ → ℕ → ℕ → ℕ → Entry
 unfolding obey
-admits s handle interval share = says (obey s (Admit handle interval share share) .answer)
+asks s handle interval floor ceiling = says (obey s (Admit handle interval floor ceiling) .answer)
+
+admits : Schedule → ℕ → ℕ → ℕ → Entry
+unfolding asks
+admits s handle interval share = asks s handle interval share share
 
 andThen : Schedule → ℕ → ℕ → ℕ → Schedule
 unfolding obey
@@ -71,17 +76,37 @@ unfolding report
 estimates s sample = is (connection (report s 0 sample .schedule) 0 .estimate)
 
 -- "Interval 5: refusal 4. 6 and 11: F 1. 12: F 2. 3,071: F 256." "One interval of 3,072 to 3,200 gives F 256, which amends 01's case". "3,201: refusal 4."
+-- 6 and 11 are still F 1; as admissions they "now give the new number".
 intervals : List Row
-unfolding admits fresh
+unfolding admits fresh kOf
 intervals =
     admits fresh 0 5 1 ∼ says (refused 4)
-    ∷ admits fresh 0 6 1 ∼ says (ok 1 0 1)
-    ∷ admits fresh 0 11 1 ∼ says (ok 1 0 1)
+    ∷ is (2 ^ kOf 6) ∼ is 1
+    ∷ is (2 ^ kOf 11) ∼ is 1
+    ∷ admits fresh 0 6 1 ∼ says (refused 20)
+    ∷ admits fresh 0 11 1 ∼ says (refused 20)
     ∷ admits fresh 0 12 1 ∼ says (ok 2 0 1)
     ∷ admits fresh 0 3071 1 ∼ says (ok 256 0 1)
     ∷ admits fresh 0 3072 1 ∼ says (ok 256 0 1)
     ∷ admits fresh 0 3200 1 ∼ says (ok 256 0 1)
     ∷ admits fresh 0 3201 1 ∼ says (refused 4)
+    ∷ []
+
+-- "Refuse an admission where twice the ceiling is above F", "20, after 5 and before 6": F 2 and F 8, up to half and above it; with a share that is wrong,
+-- too; a handle that is live; and F 1 where nothing is free.
+halves : List Row
+unfolding asks admits andThen fresh
+halves =
+    let s₁ = andThen fresh 0 12 1 in
+    let s₂ = andThen s₁ 1 12 1 in
+    asks fresh 0 12 1 2 ∼ says (refused 20)
+    ∷ asks fresh 0 48 1 4 ∼ says (ok 8 0 1)
+    ∷ asks fresh 0 48 1 5 ∼ says (refused 20)
+    ∷ asks fresh 0 48 0 5 ∼ says (refused 5)
+    ∷ asks fresh 0 48 1 9 ∼ says (refused 5)
+    ∷ admits s₁ 0 6 1 ∼ says (refused 2)
+    ∷ admits s₂ 2 6 1 ∼ says (refused 20)
+    ∷ admits s₂ 2 12 1 ∼ says (refused 6)
     ∷ []
 
 -- "Four admissions at interval 48, floor and ceiling 1 throughout, on a fresh schedule: anchors 0, 4, 2, 6. Then interval 12:
@@ -141,8 +166,8 @@ meters =
     ∷ []
 
 pub tableP : List Row
-unfolding intervals mirroredOrder pairs roundTheEnd meters
-tableP = intervals ++ mirroredOrder ++ pairs ++ roundTheEnd ++ meters
+unfolding intervals halves mirroredOrder pairs roundTheEnd meters
+tableP = intervals ++ halves ++ mirroredOrder ++ pairs ++ roundTheEnd ++ meters
 
 -- Each row gives what the sheet says.
 pub table-P : map (λ (r : Row). r .given) tableP ≡ map (λ (r : Row). r .sheet) tableP

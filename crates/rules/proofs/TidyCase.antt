@@ -115,12 +115,12 @@ pub fits-and-is-refused : (sound wide ≡ true) × (tidy wide [] ≡ refusingLis
 unfolding wide sound tidy
 fits-and-is-refused = (refl, refl)
 
--- "with its present length in the place of the floor": beside one that has grown to five blocks the first free anchor is 6, not 4.
+-- "with its present length in the place of the floor": beside one that has grown to two blocks of four the first free anchors are 2 and 3, not 2 and 1.
 pub grownHouse : Schedule
 unfolding fresh withConnections
-grownHouse = having (record { live = true; k = 3; anchor = 0; length = 5; floor = 1; ceiling = 5; estimate = 35000 } ∷ single 3 5 5000 ∷ []) 62
+grownHouse = having (record { live = true; k = 2; anchor = 0; length = 2; floor = 1; ceiling = 2; estimate = 12500 } ∷ single 2 3 5000 ∷ single 2 2 5000 ∷ []) 61
 
-pub present-length : (tidy grownHouse (old 3) .answer ≡ tidied 1) × (tidy grownHouse (old 3) .list ≡ 1 ∷ 5 ∷ 6 ∷ [])
+pub present-length : (tidy grownHouse (old 6) .answer ≡ tidied 2) × (tidy grownHouse (old 6) .list ≡ 1 ∷ 3 ∷ 2 ∷ 2 ∷ 2 ∷ 3 ∷ [])
 unfolding grownHouse tidy
 present-length = (refl, refl)
 

@@ -20,7 +20,7 @@ pub whole-case : program
     ++ text "owner 0\n"
     ++ text "idle\n"
     ++ text "slots 36\n"
-    ++ text "no 6\n"
+    ++ text "no 20\n"
     ++ text "no 3\n"
 unfolding program
 whole-case = refl

@@ -6,7 +6,7 @@ use mathlib.Core.Option.{Option, Option·getD}
 use lib.Dec.{leb, ltb, eqb}
 use Rattle.rules.specs.declared.Connection.{Connection}
 use Rattle.rules.specs.declared.Schedule.{Schedule}
-use Rattle.rules.specs.declared.Refusal.the-variants.{HandleAbove63, HandleLive, IntervalOutside, NoInterval, ShareWrong, NoOpenAnchor}
+use Rattle.rules.specs.declared.Refusal.the-variants.{HandleAbove63, HandleLive, IntervalOutside, NoInterval, ShareWrong, CeilingAboveHalf, NoOpenAnchor}
 use Rattle.rules.specs.Below.{largest, greatest, least, isNone}
 use Rattle.rules.specs.Time.{blockSlots, blockMicros, guardMicros}
 use Rattle.rules.specs.Core.{isRange}
@@ -48,6 +48,10 @@ kFor smallest largest = Option·getD (kIn smallest largest) 0
 abbrev pub shareWrong : ℕ → ℕ → ℕ → Bool
 shareWrong floor ceiling F = eqb floor 0 || ltb ceiling floor || ltb F ceiling
 
+-- 20: "twice the ceiling is above F"
+abbrev pub ceilingAboveHalf : ℕ → ℕ → Bool
+ceilingAboveHalf ceiling F = ltb F (2 * ceiling)
+
 -- "An anchor A is open if every block (A + j) mod F, j below floor, is free in all its periods."
 unfoldable pub isOpen : (ℕ → Bool) → ℕ → ℕ → ℕ → Bool
 unfolding runFree
@@ -67,17 +71,24 @@ noOpenAnchor blocks k floor = isNone (firstOpen blocks k floor)
 abbrev pub newConnection : ℕ → ℕ → ℕ → ℕ → Connection
 newConnection k A floor ceiling = record { live = true; k = k; anchor = A; length = floor; floor = floor; ceiling = ceiling; estimate = floor * blockMicros - guardMicros }
 
--- "Checks 1, 2, 4, 5, 6", and 15 "after 4 and before 5": 1 is of the handle alone, and the others ask of a schedule only whether the handle is live
--- and which blocks are taken.
+-- "Checks 1, 2, 4, 5, 6", 15 "after 4 and before 5", and 20 "after 5 and before 6": 1, 2, 4, 15, 5, 20, 6, each list here the tail of the next. Those that
+-- follow k, 5, 20 and 6:
+abbrev pub factorChecks : (ℕ → Bool) → ℕ → ℕ → ℕ → List Check
+factorChecks blocks k floor ceiling =
+    check ShareWrong (shareWrong floor ceiling (2 ^ k))
+    ∷ check CeilingAboveHalf (ceilingAboveHalf ceiling (2 ^ k))
+    ∷ check NoOpenAnchor (noOpenAnchor blocks k floor)
+    ∷ []
+
+-- In front of them 2, 4 and 15. These six ask of a schedule only whether the handle is live and which blocks are taken.
 abbrev pub placeChecks : Bool → (ℕ → Bool) → ℕ → ℕ → ℕ → ℕ → List Check
 placeChecks live blocks smallest largest floor ceiling =
     check HandleLive live
     ∷ check IntervalOutside (intervalOutside smallest largest)
     ∷ check NoInterval (noInterval smallest largest)
-    ∷ check ShareWrong (shareWrong floor ceiling (2 ^ kFor smallest largest))
-    ∷ check NoOpenAnchor (noOpenAnchor blocks (kFor smallest largest) floor)
-    ∷ []
+    ∷ factorChecks blocks (kFor smallest largest) floor ceiling
 
+-- In front of all 1, of the handle alone.
 unfoldable pub admitChecks : Schedule → ℕ → ℕ → ℕ → ℕ → ℕ → List Check
 unfolding isRange kIn firstOpen taken
 admitChecks s handle smallest largest floor ceiling =

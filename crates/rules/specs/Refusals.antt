@@ -3,7 +3,7 @@ use Prim.Native.Nat.{ℕ}
 use mathlib.Core.Bool.{Bool, cond}
 use mathlib.Core.List.{List, [], _∷_}
 use Rattle.rules.specs.declared.Refusal.{Refusal}
-use Rattle.rules.specs.declared.Refusal.the-variants.{HandleAbove63, HandleLive, HandleNotLive, IntervalOutside, ShareWrong, NoOpenAnchor, SampleAboveRun, BufferShort, RecordsWrong, NumbersUnsound, BlockOwnedTwice, TreeDiffers, ReportsMany, ListShort, NoInterval, MessageWrong, ValuesForbidden, FactorIllegal, NoAnchorForAll}
+use Rattle.rules.specs.declared.Refusal.the-variants.{HandleAbove63, HandleLive, HandleNotLive, IntervalOutside, ShareWrong, NoOpenAnchor, SampleAboveRun, BufferShort, RecordsWrong, NumbersUnsound, BlockOwnedTwice, TreeDiffers, ReportsMany, ListShort, NoInterval, MessageWrong, ValuesForbidden, FactorIllegal, NoAnchorForAll, CeilingAboveHalf}
 
 -- The table's number of each named refusal.
 abbrev pub number : Refusal → ℕ
@@ -26,6 +26,7 @@ number MessageWrong = 16
 number ValuesForbidden = 17
 number FactorIllegal = 18
 number NoAnchorForAll = 19
+number CeilingAboveHalf = 20
 
 -- A check of a call: the refusal that it gives, and whether it refuses.
 pub record Check : Type 0 where

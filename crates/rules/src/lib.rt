@@ -179,6 +179,7 @@ pub enum Refusal {
     ValuesForbidden,
     FactorIllegal,
     NoAnchorForAll,
+    CeilingAboveHalf,
 }
 
 /// What a largest interval gives: the largest k of a connection with 6 × 2^k not above it, or nothing.
@@ -203,6 +204,12 @@ pub enum Range {
 pub enum Share {
     Fits,
     Wrong,
+}
+
+/// Whether a ceiling is at most half of a factor.
+pub enum Half {
+    Within,
+    Above,
 }
 
 /// The first open anchor in node order, or none.

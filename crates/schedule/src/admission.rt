@@ -1,4 +1,4 @@
-//! Admit: checks 1, 2, 4, 15, 5, 6.
+//! Admit: checks 1, 2, 4, 15, 5, 20, 6.
 ghost use mathlib.Core.Path.{_≡_};
 ghost use Prim.Native.Nat.{_≤_};
 ghost use Rattle.rules.specs.Time.{listBlocks};

@@ -89,6 +89,7 @@ pub fn refusal_number(r: Refusal) -> u32
         Refusal::ValuesForbidden => 17,
         Refusal::FactorIllegal => 18,
         Refusal::NoAnchorForAll => 19,
+        Refusal::CeilingAboveHalf => 20,
     }
 }
 

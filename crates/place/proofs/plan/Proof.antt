@@ -8,12 +8,12 @@ use native.Mathlib.Nat.{le-trans}
 use lib.Pow.{pow-mono}
 use Rattle.rules.specs.Core.{isInterval}
 use Rattle.rules.specs.Ownership.{largestK}
-use Rattle.rules.specs.Admit.{intervalOutside, kOf, kIn, shareWrong}
-use Rattle.place.specs.Steps.{ofInterval, ofSmallest, ofRange, ofShare, ofPlace, rangeStep}
+use Rattle.rules.specs.Admit.{intervalOutside, kOf, kIn, shareWrong, ceilingAboveHalf}
+use Rattle.place.specs.Steps.{ofInterval, ofSmallest, ofRange, ofShare, ofHalf, ofPlace, rangeStep}
 use Rattle.blocks.proofs.ClassLaws.{within-depth}
 use Rattle.calls.proofs.RangeLaws.{k-small}
 use Rattle.calls.proofs.AdmitLaws.{share-bounds}
-use Rattle.place.proofs.StepLaws.{interval-told, interval-refused, smallest-told, smallest-refused, range-told, range-missed, share-told, wrong-told, place-told, nowhere-told, plan-2, plan-4, plan-15, plan-5, plan-6, plan-ok}
+use Rattle.place.proofs.StepLaws.{interval-told, interval-refused, smallest-told, smallest-refused, range-told, range-missed, share-told, wrong-told, half-told, above-told, place-told, nowhere-told, plan-2, plan-4, plan-15, plan-5, plan-20, plan-6, plan-ok}
 use Rattle.place.proofs.plan.Statement.{statement}
 use Rattle.place.proofs.plan.Tie as tie
 
@@ -45,6 +45,13 @@ share-is c =
     let a = c .before .before .before .before .before .before .before .before .before .before .before .before .before .before .before .args in
     ap (λ (F : ℕ). shareWrong (a .floor) (a .ceiling) F) (sym (c .before .before .before .before .before .before .factor .ensures .is))
     ∙ share-told (a .floor) (a .ceiling) _ (ap ofShare (sym (c .enum-told6 .given .1)) ∙ c .before .before .share-of .ensures)
+
+-- the ceiling is within half of it
+half-is : (c : tie.After-enum-told8) → ceilingAboveHalf (c .before .before .before .before .before .before .before .before .before .before .before .before .before .before .before .before .before .before .args .ceiling) (2 ^ c .before .before .before .before .before .before .before .before .before .before .before .before .before .before .k .given .0 .0) ≡ false
+half-is c =
+    let a = c .before .before .before .before .before .before .before .before .before .before .before .before .before .before .before .before .before .before .args in
+    ap (ceilingAboveHalf (a .ceiling)) (sym (c .before .before .before .before .before .before .before .before .before .factor .ensures .is))
+    ∙ half-told (a .ceiling) _ (ap ofHalf (sym (c .enum-told8 .given .1)) ∙ c .before .before .half-of .ensures)
 
 returns : tie.Need-returns
 returns c f e = plan-2 f _ _ _ _ _ (c .if1 .taken)
@@ -117,35 +124,53 @@ returns-5 c f e =
     (ap (λ (F : ℕ). shareWrong (a .floor) (a .ceiling) F) (sym (h .before .before .before .before .factor .ensures .is))
     ∙ wrong-told (a .floor) (a .ceiling) _ (ap ofShare (sym (c .enum-told7 .given .1)) ∙ h .share-of .ensures))
 
+half-of-requires : tie.Need-half-of-requires
+half-of-requires c κs = search needs
+
+enum-told-8 : tie.Need-enum-told-8
+enum-told-8 c = search needs
+
+enum-told-9 : tie.Need-enum-told-9
+enum-told-9 c = search needs
+
+returns-6 : tie.Need-returns-6
+returns-6 c f e =
+    let h = c .before .before in
+    let t = h .before .before .before .before .before .before .before .before in
+    let a = t .before .before .before .before .before .before .before .before .args in
+    plan-20 f _ _ _ _ _ (t .before .before .before .before .before .before .before .if1 .left) (in-order t) _ (given (h .before .before .before .before)) (share-is (h .before))
+    (ap (ceilingAboveHalf (a .ceiling)) (sym (h .before .before .before .before .before .before .before .factor .ensures .is))
+    ∙ above-told (a .ceiling) _ (ap ofHalf (sym (c .enum-told9 .given .1)) ∙ h .half-of .ensures))
+
 cast-first-open : tie.Need-cast-first-open
 cast-first-open c = search needs
 
 first-open-requires : tie.Need-first-open-requires
 first-open-requires c κs =
-    let k = c .before .before .before .before .before .before .before .before .before .before .before in
+    let k = c .before .before .before .before .before .before .before .before .before .before .before .before .before .before in
     let a = k .before .before .before .before in
-    let b = share-bounds (a .args .floor) (a .args .ceiling) (2 ^ k .k .given .0 .0) (share-is c) in
+    let b = share-bounds (a .args .floor) (a .args .ceiling) (2 ^ k .k .given .0 .0) (share-is (c .before .before .before)) in
     (k-below k, b .0, le-trans (b .1) (b .2), a .pre)
 
 enum-known-anchor : tie.Need-enum-known-anchor
 enum-known-anchor c = search needs
 
-enum-told-8 : tie.Need-enum-told-8
-enum-told-8 c = search needs
-
-returns-6 : tie.Need-returns-6
-returns-6 c f e =
-    let p = c .before .before in
-    let t = p .before .before .before .before .before .before .before .before in
-    plan-6 f _ _ _ _ _ (t .before .before .before .before .before .before .before .if1 .left) (in-order t) _ (given (p .before .before .before .before)) (share-is (p .before))
-    (nowhere-told f _ _ (ap ofPlace (sym (c .enum-told8 .given .1)) ∙ p .first-open .ensures f e))
+enum-told-10 : tie.Need-enum-told-10
+enum-told-10 c = search needs
 
 returns-7 : tie.Need-returns-7
 returns-7 c f e =
+    let p = c .before .before in
+    let t = p .before .before .before .before .before .before .before .before .before .before .before in
+    plan-6 f _ _ _ _ _ (t .before .before .before .before .before .before .before .if1 .left) (in-order t) _ (given (p .before .before .before .before .before .before .before)) (share-is (p .before .before .before .before)) (half-is (p .before))
+    (nowhere-told f _ _ (ap ofPlace (sym (c .enum-told10 .given .1)) ∙ p .first-open .ensures f e))
+
+returns-8 : tie.Need-returns-8
+returns-8 c f e =
     let p = c .before .before .before in
-    let t = p .before .before .before .before .before .before .before .before in
+    let t = p .before .before .before .before .before .before .before .before .before .before .before in
     let w = place-told f _ _ _ (ap ofPlace (sym (c .before .anchor .given .1)) ∙ p .first-open .ensures f e) in
-    plan-ok f _ _ _ _ _ (t .before .before .before .before .before .before .before .if1 .left) (in-order t) _ (given (p .before .before .before .before)) (share-is (p .before)) (w .0) _ (w .1) (w .2)
+    plan-ok f _ _ _ _ _ (t .before .before .before .before .before .before .before .if1 .left) (in-order t) _ (given (p .before .before .before .before .before .before .before)) (share-is (p .before .before .before .before)) (half-is (p .before)) (w .0) _ (w .1) (w .2)
 
 pub plan-spec : {M : Type 1} → statement M
 plan-spec =
@@ -170,9 +195,13 @@ plan-spec =
     enum-told-6
     enum-told-7
     returns-5
+    half-of-requires
+    enum-told-8
+    enum-told-9
+    returns-6
     cast-first-open
     first-open-requires
     enum-known-anchor
-    enum-told-8
-    returns-6
-    returns-7)
+    enum-told-10
+    returns-7
+    returns-8)
