@@ -10,6 +10,7 @@ use Rattle.rules.specs.Image.{image}
 use Rattle.history.specs.Calls.{ruled}
 use Rattle.history.specs.Runs.{Run, more, now, followed, System, By}
 use Rattle.history.specs.Demands.{SavesBack, Demand1, Demand2, Demand3}
+use Rattle.history.specs.AtMostHalf.{AtMostHalf}
 use Rattle.history.specs.Code.{Coded, CodeAsDemanded}
 use Rattle.history.proofs.Following.{now-after, result-after, now-sound, coded-ruled}
 use Rattle.history.proofs.Taking.{takes-by, takes-coded}
@@ -17,6 +18,7 @@ use Rattle.history.proofs.Refusing.{refusals}
 use Rattle.history.proofs.Meaning.{meanings}
 use Rattle.history.proofs.Counting.{counted-run, near-run}
 use Rattle.history.proofs.Lifetimes.{steady, lives, bounded}
+use Rattle.history.proofs.Half.{at-most-half, admitted-within}
 
 demand3-ruled : Demand3 (By ruled)
 demand3-ruled =
@@ -67,17 +69,31 @@ saves-back S one two run m save bytes n s p a q long =
       w .1 ∙ ap (λ (l : List ℕ). over l (save .request .lent .buffer)) e,
     )
 
+demand1-coded : Demand1 Coded
+demand1-coded = record { takes = takes-coded; refusals = λ run m n c. refusals run m n (coded-ruled (more run m) c) }
+
+demand2-coded : Demand2 Coded
+demand2-coded = demand2-among Coded (By ruled) coded-ruled meanings
+
+demand3-coded : Demand3 Coded
+demand3-coded = demand3-among Coded (By ruled) coded-ruled demand3-ruled
+
 -- The theorem, of every run of the code.
 pub code-as-demanded : CodeAsDemanded
 code-as-demanded =
     record {
       schedules = λ run c. now-after run (coded-ruled run c);
       results = λ run m c. result-after run m (coded-ruled (more run m) c);
-      demand1 = record { takes = takes-coded; refusals = λ run m n c. refusals run m n (coded-ruled (more run m) c) };
-      demand2 = demand2-among Coded (By ruled) coded-ruled meanings;
-      demand3 = demand3-among Coded (By ruled) coded-ruled demand3-ruled;
+      demand1 = demand1-coded;
+      demand2 = demand2-coded;
+      demand3 = demand3-coded;
+      half =
+          at-most-half Coded demand1-coded demand2-coded demand3-coded
+          (λ run m x lo hi f c F A L s. admitted-within run m x lo hi f c F A L (coded-ruled (more run m) s));
     }
 
 -- And of the rule sheet's step: no demand is empty of what it asks.
-pub ruled-as-demanded : Demand1 (By ruled) × Demand2 (By ruled) × Demand3 (By ruled)
-ruled-as-demanded = (record { takes = takes-by ruled; refusals = refusals }, meanings, demand3-ruled)
+pub ruled-as-demanded : Demand1 (By ruled) × Demand2 (By ruled) × Demand3 (By ruled) × AtMostHalf (By ruled)
+ruled-as-demanded =
+    let one : Demand1 (By ruled) = record { takes = takes-by ruled; refusals = refusals } in
+    (one, meanings, demand3-ruled, at-most-half (By ruled) one meanings demand3-ruled admitted-within)

@@ -6,6 +6,7 @@ pub mod Meaning
 pub mod Counting
 pub mod Effects
 pub mod Lifetimes
+pub mod Half
 pub mod DemandsMet
 pub mod Singly
 pub mod ShutOut

@@ -1,7 +1,7 @@
 -- Demand 2: what the definitions give, room exactly, images exactly.
 use mathlib.Core.Path.{_≡_, refl, sym, subst, ap, _∙_}
 use mathlib.Core.Bool.{Bool, true, _&&_}
-use Prim.Native.Nat.{ℕ, _*_, _^_, _≤_}
+use Prim.Native.Nat.{ℕ, _^_}
 use native.Mathlib.Omega.{arith}
 use borrow.Author.Tests.{ltb-false, not-false}
 use Rattle.rules.specs.declared.Schedule.{Schedule}
@@ -89,14 +89,14 @@ room-asked s good x lo hi f c k reach =
       share = reach .share;
     } in
     let none = no-room-exactly s good x lo hi f c in
-    let some = room-exactly s good x lo hi f c k r in
+    let some = room-exactly s good x lo hi f c k r (reach .half) in
     record {
       shut = (
         λ a A l free.
             let n = none .0 a in
             let q : k ≡ n .k = k-unique lo hi k (n .k) (reach .given) (n .reached .given) in
             n .shut A (rw (← q) l) (rw (← q) (λ j lj b y m. free j lj b m y)),
-        λ shut. none .1 (record { k = k; reached = r; shut = λ A l free. shut A l (λ j lj b m y. free j lj b y m) }),
+        λ shut. none .1 (record { k = k; reached = r; within = reach .half; shut = λ A l free. shut A l (λ j lj b m y. free j lj b y m) }),
       );
       opens = (
         λ placed. let w = some .0 placed in (w .0, w .1, λ j lj b m y. w .2 j lj b y m),

@@ -1,7 +1,7 @@
 -- The versions that are shut out, each by a computed history.
-use Prim.Native.Nat.{ℕ}
+use Prim.Native.Nat.{ℕ, _≤_}
 use mathlib.Core.Path.{_≡_, refl, sym, ap, subst, _∙_}
-use mathlib.Core.Bool.{true, false≢true}
+use mathlib.Core.Bool.{Bool, true, false, false≢true}
 use mathlib.Core.List.{List, [], _∷_}
 use native.Mathlib.Omega.{arith}
 use lib.ListN.{getD, replicate}
@@ -15,17 +15,18 @@ use Rattle.rules.specs.Good.{fresh, withConnections, withConnection}
 use Rattle.rules.specs.Refusals.{number, decided}
 use Rattle.rules.specs.Answers.{refused, ok}
 use Rattle.rules.specs.Handles.{connection}
-use Rattle.rules.specs.Admit.{kIn, anchorFor}
+use Rattle.rules.specs.Admit.{kIn, anchorFor, admitChecks, admitDone}
 use Rattle.rules.specs.Image.{image}
 use Rattle.rules.specs.Load.{loadChecks, loadDone}
 use Rattle.blocks.proofs.ScheduleLaws.{nobody-owns, at-free, fresh-is-good}
 use Rattle.rules.proofs.Readings.{single as logger}
 use Rattle.images.proofs.ImageLaws.{image-bytes}
-use Rattle.history.specs.Calls.{Bytes, Call, Admit, Drop, Report, Reports, Owner, Save, Load, Tidy, Lent, nothing, Request, ruledCall}
+use Rattle.history.specs.Calls.{Bytes, Call, Admit, Drop, Report, Reports, Owner, Anchor, Save, Load, Tidy, Lent, nothing, Request, ruledCall}
 use Rattle.history.specs.Runs.{Fresh, startOf, History, begin, next, after, Made, Run, begun, more, now, historyOf, StepFunction, By}
 use Rattle.history.specs.Moments.{ReportOf, single as single-report, listed, Ends, admitted, drops, replaced}
 use Rattle.history.specs.Demands.{Demand1, IntervalsMeant, FactorsMeant, ResultsGiven, ConnectionsGiven, RoomExact, RestoreExact, Demand2, countFrom, Counted, ApartEver, Steady, Lives, Demand3}
-use Rattle.history.specs.Versions.{RefusesAll, anchorsZero, doesNothing, inventsAnswers, makesUpLength, endsAnother, startsAtZero, forgetsEstimate, neverGrows, losesBackups, admits512, restores512, tidiesHalfway, tidiesAfresh, refusesWithOne}
+use Rattle.history.specs.AtMostHalf.{AtMostHalf}
+use Rattle.history.specs.Versions.{RefusesAll, anchorsZero, doesNothing, inventsAnswers, makesUpLength, endsAnother, startsAtZero, forgetsEstimate, neverGrows, losesBackups, admits512, restores512, tidiesHalfway, tidiesAfresh, capsFloor, refusesWithOne}
 
 -- ---- runs of a version
 -- What it leaves of a request,
@@ -80,7 +81,7 @@ refuses-all-room step refuses room =
     let run = begun Fresh (startOf Fresh) in
     let no = refuses (startOf Fresh) (single 0) in
     let yes =
-    room run (leaves step run (single 0)) 0 6 48 1 1 3 (refl, refl) refl (record { handle = refl; unused = refl; range = refl; given = refl; share = refl }) .opens .1
+    room run (leaves step run (single 0)) 0 6 48 1 1 3 (refl, refl) refl (record { handle = refl; unused = refl; range = refl; given = refl; share = refl; half = omega arith }) .opens .1
     (0, omega arith, λ j h b e x. ap (λ c. owns c b) (at-free handles x) ∙ nobody-owns b) in
     let e = no .1 in
     let f = yes .3 in
@@ -205,13 +206,21 @@ pub makes-up-length : Demand3 (By makesUpLength) → ⊥
 makes-up-length d = makes-up-length-counted (d .counted)
 
 -- ---- one that ends a connection nobody dropped
--- A question ends nothing.
-asking-ends-nothing : (step : StepFunction) (run : Run) (b x : ℕ) → Ends (leaves step run (plain (Owner b))) x → ⊥
-asking-ends-nothing step run b x (drops e a) = let z : _≡_ {A = ℕ} 0 1 = cc in omega arith
-asking-ends-nothing step run b x (replaced bytes w) =
-    let e = w .0 in
-    let z : _≡_ {A = ℕ} 0 1 = cc in
-    omega arith
+-- A call that is neither a drop nor a restore ends nothing.
+abbrev endsNothing : Call → Bool
+endsNothing (Admit x lo hi floor ceiling) = true
+endsNothing (Drop x) = false
+endsNothing (Report x sample) = true
+endsNothing (Reports reports) = true
+endsNothing (Owner b) = true
+endsNothing (Anchor x b) = true
+endsNothing Save = true
+endsNothing (Load bytes) = false
+endsNothing Tidy = true
+
+ends-nothing : (m : Made) (x : ℕ) → endsNothing (m .request .call) ≡ true → Ends m x → ⊥
+ends-nothing m x q (drops e a) = false≢true (sym (ap endsNothing e) ∙ q)
+ends-nothing m x q (replaced bytes w) = false≢true (sym (ap endsNothing (w .0)) ∙ q)
 
 -- Handle 0, admitted and never dropped, is gone after a question.
 pub ends-another-lives : Lives (By endsAnother) → ⊥
@@ -230,7 +239,7 @@ ends-another-lives lives =
         between = leaves endsAnother run (plain (Owner 0)) ∷ [];
         whole = refl;
         begins = admitted 6 48 refl (8, 0, 1, refl);
-        lasts = (asking-ends-nothing endsAnother run 0 0, tt);
+        lasts = (ends-nothing (leaves endsAnother run (plain (Owner 0))) 0 refl, tt);
       },
     ))
 
@@ -310,14 +319,7 @@ tidies-halfway d =
     omega arith
 
 -- ---- and one that admits anew
--- A tidy ends nothing, and is nobody's report.
-tidying-ends-nothing : (step : StepFunction) (run : Run) (x : ℕ) → Ends (leaves step run (plain Tidy)) x → ⊥
-tidying-ends-nothing step run x (drops e a) = let z : _≡_ {A = ℕ} 0 1 = cc in omega arith
-tidying-ends-nothing step run x (replaced bytes w) =
-    let e = w .0 in
-    let z : _≡_ {A = ℕ} 0 1 = cc in
-    omega arith
-
+-- A tidy is nobody's report.
 tidying-reports-nothing : (x : ℕ) → ReportOf Tidy x → ⊥
 tidying-reports-nothing x (single-report sample e) = let z : _≡_ {A = ℕ} 0 1 = cc in omega arith
 tidying-reports-nothing x (listed reports e among) = let z : _≡_ {A = ℕ} 0 1 = cc in omega arith
@@ -331,6 +333,43 @@ unfolding ran ruledCall withConnections
 tidies-afresh steady =
     let run = ran tidiesAfresh grownOnce in
     let m = leaves tidiesAfresh run (plain Tidy) in
-    let w = steady run (m ∷ []) 0 (ran-by tidiesAfresh (next grownOnce (plain Tidy))) refl (tidying-ends-nothing tidiesAfresh run 0, tt) in
+    let w = steady run (m ∷ []) 0 (ran-by tidiesAfresh (next grownOnce (plain Tidy))) refl (ends-nothing m 0 refl, tt) in
     let z : _≡_ {A = ℕ} 1 2 = w .2 (tidying-reports-nothing 0, tt) .0 in
     omega arith
+
+-- ---- one that reads the cap off the floor
+-- A logger of every other block that may have every block is turned away, as twice 2 is above 2; here it is placed.
+abbrev greedy : Request
+greedy = plain (Admit 0 6 12 1 2)
+
+pub caps-floor-answers : ResultsGiven (By capsFloor) → ⊥
+unfolding ran after ruledCall admitChecks admitDone decided
+caps-floor-answers results =
+    let e : ok 2 0 1 ≡ refused 20 = answer-given capsFloor start greedy results in
+    let z : _≡_ {A = ℕ} 0 1 = cc in
+    omega arith
+
+-- One report of a full block, and every block is its own.
+pub caps-floor-half : AtMostHalf (By capsFloor) → ⊥
+unfolding ran ruledCall admitChecks admitDone decided owns countFrom
+caps-floor-half half =
+    let first = ran capsFloor start in
+    let run = ran capsFloor (next start greedy) in
+    let h = next (next start greedy) (plain (Report 0 7500)) in
+    let grows = leaves capsFloor run (plain (Report 0 7500)) in
+    let w =
+    half .lasts (ran capsFloor h) 0 1 2 (ran-by capsFloor h)
+    (record {
+      earlier = first;
+      first = leaves capsFloor first greedy;
+      between = grows ∷ [];
+      whole = refl;
+      begins = admitted 6 12 refl (2, 0, 1, refl);
+      lasts = (ends-nothing grows 0 refl, tt);
+    })
+    tt in
+    let z : 2 ≤ 1 = w .inBlocks 0 in
+    omega arith
+
+pub caps-floor : (Demand2 (By capsFloor) → ⊥) × (AtMostHalf (By capsFloor) → ⊥)
+caps-floor = (λ d. caps-floor-answers (d .results), caps-floor-half)

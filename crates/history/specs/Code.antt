@@ -22,6 +22,7 @@ use Rattle.tidy.specs.Promises.{Tidies}
 use Rattle.history.specs.Calls.{Call, Admit, Drop, Report, Reports, Owner, Anchor, Save, Load, Tidy, Lent, Result, beside, asked, filled, written, ruled}
 use Rattle.history.specs.Runs.{Start, Fresh, after, Made, Run, begun, more, now, historyOf, System}
 use Rattle.history.specs.Demands.{Demand1, Demand2, Demand3}
+use Rattle.history.specs.AtMostHalf.{AtMostHalf}
 
 -- What the code begins with.
 abbrev pub StartsAs : Start → Schedule → Type 0
@@ -47,10 +48,11 @@ Coded (begun start s) = StartsAs start s
 Coded (more run m) = Coded run × Meets (now run) (m .request .call) (m .request .lent) (m .result)
 
 -- Of every run of the code: its schedule, each answer and all that was lent are those of the rule sheet's step after the same history; and
--- the three demands hold.
+-- the three demands hold. And one logger does not take the house.
 pub record CodeAsDemanded : Type 0 where
   pub schedules : (run : Run) → Coded run → now run ≡ after (historyOf run)
   pub results : (run : Run) (m : Made) → Coded (more run m) → m .result ≡ ruled (after (historyOf run)) (m .request)
   pub demand1 : Demand1 Coded
   pub demand2 : Demand2 Coded
   pub demand3 : Demand3 Coded
+  pub half : AtMostHalf Coded

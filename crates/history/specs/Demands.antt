@@ -99,13 +99,14 @@ TreeGiven S = (run : Run) → S run → now run .tree .bytes ≡ treeFor (now ru
 abbrev pub WholeRunFree : Schedule → ℕ → ℕ → ℕ → Type 0
 WholeRunFree s F A floor = (j : ℕ) → j < floor → (b : ℕ) → b % F ≡ (A + j) % F → (x : ℕ) → has s x b ≡ false
 
--- The checks before that of room, 1, 2, 4, 15 and 5, pass, and the range gives k.
+-- The checks before that of room, 1, 2, 4, 15, 5 and 20, pass, and the range gives k.
 pub record Reaches (s : Schedule) (x smallest largest floor ceiling k : ℕ) : Type 0 where
   pub handle : aboveHandles x ≡ false
   pub unused : isLive s x ≡ false
   pub range : intervalOutside smallest largest ≡ false
   pub given : kIn smallest largest ≡ some k
   pub share : shareWrong floor ceiling (2 ^ k) ≡ false
+  pub half : 2 * ceiling ≤ 2 ^ k
 
 -- It is then refused with 6 exactly when there is none, and accepted exactly when there is one.
 pub record RoomAsked (s : Schedule) (answer : Answer) (F floor : ℕ) : Type 0 where

@@ -3,6 +3,7 @@ pub mod Calls
 pub mod Runs
 pub mod Moments
 pub mod Demands
+pub mod AtMostHalf
 pub mod Code
 pub mod Singly
 pub mod Versions

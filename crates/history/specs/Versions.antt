@@ -1,5 +1,6 @@
 -- Versions that are shut out: the rule sheet's six, four that answer nearly as they should, one that still admits F 512 and one that still restores it, one
--- that tidies halfway and one that tidies by admitting anew, and one that refuses everything with 1. Each is a step function.
+-- that tidies halfway and one that tidies by admitting anew, one that reads the cap off the floor, and one that refuses everything with 1. Each is a step
+-- function.
 use Prim.Native.Nat.{ℕ, _+_, _%_, _^_}
 use mathlib.Core.Path.{_≡_}
 use mathlib.Core.Bool.{Bool, true, false, cond, _&&_}
@@ -10,14 +11,14 @@ use lib.ListN.{set, getD, length, replicate, take, drop}
 use Rattle.rules.specs.declared.Schedule.{Schedule}
 use Rattle.rules.specs.declared.Connection.{Connection}
 use Rattle.rules.specs.declared.Report.{Report as ReportOfList}
-use Rattle.rules.specs.declared.Refusal.the-variants.{HandleAbove63}
+use Rattle.rules.specs.declared.Refusal.the-variants.{HandleAbove63, CeilingAboveHalf}
 use Rattle.rules.specs.Below.{isNone}
 use Rattle.rules.specs.Ownership.{freeSlots, at}
 use Rattle.rules.specs.Good.{withConnections, withConnection}
-use Rattle.rules.specs.Refusals.{number, decided}
+use Rattle.rules.specs.Refusals.{number, check, decided}
 use Rattle.rules.specs.Handles.{connection, isLive}
 use Rattle.rules.specs.Answers.{Answer, refusing, refused, ok, dropped, kept, grown, shrunk, tight, owner, idle, slots, saved, loaded, reported, message, wrote, tidied}
-use Rattle.rules.specs.Admit.{inRange, kFor, newConnection, anchorFor}
+use Rattle.rules.specs.Admit.{inRange, kFor, ceilingAboveHalf, newConnection, anchorFor, admitChecks, admitDone}
 use Rattle.rules.specs.Drop.{dropHandle}
 use Rattle.rules.specs.Report.{metered}
 use Rattle.rules.specs.Load.{loadChecks, loadDone}
@@ -234,6 +235,16 @@ afresh c = cond (c .live) (newConnection (c .k) (c .anchor) (c .floor) (c .ceili
 abbrev pub tidiesAfresh : StepFunction
 tidiesAfresh s r =
     onTidy (λ it. cond (accepted (it .answer)) (leaving (withConnections (it .schedule) (map afresh (it .schedule .connections))) it) it) (r .call) (ruled s r)
+
+-- ---- one that reads the cap off the floor
+-- An admission asks 1, 2, 4, 15, 5 and 6 as it should, and 20 of twice the floor.
+abbrev pub capsFloor : StepFunction
+capsFloor s r =
+    onAdmit (λ x lo hi floor ceiling it.
+    let checks = admitChecks s x lo hi floor ceiling in
+    let cap = check CeilingAboveHalf (ceilingAboveHalf floor (2 ^ kFor lo hi)) in
+    beside (it .lent) (decided (take 5 checks ++ (cap ∷ drop 6 checks)) (refusing s) (admitDone s x (kFor lo hi) floor ceiling)))
+    (r .call) (ruled s r)
 
 -- ---- and one that refuses all, with a number that is not room's
 -- Everything is refused with 1.

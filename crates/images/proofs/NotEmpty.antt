@@ -1,26 +1,31 @@
 -- The definitions are not empty: good schedules, and schedules that are not good for one slip.
-use mathlib.Core.Path.{_≡_, refl, sym, ap, _∙_}
+use mathlib.Core.Path.{_≡_, refl, sym, ap, subst⁻¹, _∙_}
 use mathlib.Core.Bool.{true, false, false≢true}
 use mathlib.Core.Logic.{_≢_}
 use mathlib.Core.List.{List, [], _∷_, _++_}
-use Prim.Native.Nat.{ℕ}
+use Prim.Native.Nat.{ℕ, _*_, _<_}
 use native.Mathlib.Omega.{arith}
+use lib.Dec.{lit<}
 use lib.ListN.{replicate, set}
 use Rattle.rules.specs.declared.Connection.{Connection}
 use Rattle.rules.specs.declared.Schedule.{Schedule}
 use Rattle.rules.specs.Below.{tabulate}
-use Rattle.rules.specs.Ownership.{handles, nobody, taken}
+use Rattle.rules.specs.Ownership.{handles, factor, nobody, taken}
 use Rattle.rules.specs.TreeBytes.{treeBytes, bitAt}
 use Rattle.rules.specs.Sound.{soundConnections, sound}
 use Rattle.rules.specs.Good.{Good, treeFor, fresh, withConnections, withConnection}
 use Rattle.rules.specs.Nodes.{nodeBit}
-use Rattle.rules.specs.Answers.{Outcome, refusing, loaded}
+use Rattle.rules.specs.Answers.{Outcome, refusing, ok, grown, loaded}
+use Rattle.rules.specs.Handles.{connection}
+use Rattle.rules.specs.Admit.{admit}
+use Rattle.rules.specs.Report.{report}
 use Rattle.rules.specs.Image.{image}
 use Rattle.rules.specs.Load.{load}
 use Rattle.rules.proofs.Readings.{single, treeless}
 use Rattle.blocks.proofs.TreeLaws.{tree-bit}
 use Rattle.blocks.proofs.SoundLaws.{connected-good}
 use Rattle.blocks.proofs.ScheduleLaws.{fresh-is-good}
+use Rattle.calls.proofs.HalfLaws.{above-not-admitted}
 use Rattle.calls.proofs.EachLaws.{liveCount}
 use Rattle.images.proofs.ImageLaws.{load-image}
 
@@ -57,6 +62,26 @@ round-is-good = only-good round refl
 pub slow-is-good : Good (only (single 8 0 5000))
 unfolding soundConnections
 slow-is-good = only-good (single 8 0 5000) refl
+
+-- Two that no admission leads to, as "connections in older images stay": F 1 alone, and F 4 with a ceiling of 3.
+pub whole-is-good : Good (only (single 0 0 5000))
+unfolding soundConnections
+whole-is-good = only-good (single 0 0 5000) refl
+
+pub threeQuarters : Connection
+threeQuarters = record { live = true; k = 2; anchor = 0; length = 2; floor = 2; ceiling = 3; estimate = 12500 }
+
+pub three-quarters-is-good : Good (only threeQuarters)
+unfolding threeQuarters soundConnections
+three-quarters-is-good = only-good threeQuarters refl
+
+pub not-admitted : (s : Schedule) → Good s → (h lo hi f c F A L : ℕ) → admit s h lo hi f c .answer ≡ ok F A L
+    → (connection (admit s h lo hi f c .schedule) h ≡ single 0 0 5000 → ⊥) × (connection (admit s h lo hi f c .schedule) h ≡ threeQuarters → ⊥)
+unfolding threeQuarters
+not-admitted s good h lo hi f c F A L a =
+    let never = above-not-admitted s good h lo hi f c F A L a in
+    let Above : Connection → Type 0 = λ x. factor x < 2 * x .ceiling in
+    (λ e. never (subst⁻¹ Above e (lit< tt)), λ e. never (subst⁻¹ Above e (lit< tt)))
 
 -- The largest estimate: L × 7,500.
 pub full-estimate-is-good : Good (only (single 3 5 7500))
@@ -103,6 +128,20 @@ house-is-loaded s = ap (λ (o : Outcome). o .answer) (load-image s house (house-
 pub slow-is-loaded : (s : Schedule) → load s (image (only (single 8 0 5000))) .answer ≡ loaded 1
 unfolding only fresh withConnections liveCount
 slow-is-loaded s = ap (λ (o : Outcome). o .answer) (load-image s (only (single 8 0 5000)) (slow-is-good .places) (slow-is-good .isSound))
+
+-- And those of F 1, and of F 4 with a ceiling of 3, which then grows to more than half.
+pub whole-is-loaded : (s : Schedule) → load s (image (only (single 0 0 5000))) .answer ≡ loaded 1
+unfolding only fresh withConnections liveCount
+whole-is-loaded s = ap (λ (o : Outcome). o .answer) (load-image s (only (single 0 0 5000)) (whole-is-good .places) (whole-is-good .isSound))
+
+pub three-quarters-is-loaded : (s : Schedule) → load s (image (only threeQuarters)) .answer ≡ loaded 1
+unfolding threeQuarters only fresh withConnections liveCount
+three-quarters-is-loaded s =
+    ap (λ (o : Outcome). o .answer) (load-image s (only threeQuarters) (three-quarters-is-good .places) (three-quarters-is-good .isSound))
+
+pub three-quarters-grows : report (only threeQuarters) 0 15000 .answer ≡ grown 3
+unfolding threeQuarters only fresh withConnections report
+three-quarters-grows = refl
 
 -- 9: a byte is left over.
 pub left-over-is-9 : (s : Schedule) → load s (treeless [] ++ (0 ∷ [])) ≡ refusing s 9
