@@ -1,5 +1,5 @@
 """For scripts, from the rule sheet's and the requests' words: images, every block under its owner, every node over its blocks; the factor of a range, over all k;
-where a connection is placed, over all anchors and blocks, and what a tidy moves; subrate messages, their bytes and what they may hold."""
+which check refuses a share; where a connection is placed, over all anchors and blocks, and what a tidy moves; subrate messages, their bytes and what they may hold."""
 
 
 def tree(connections):
@@ -29,6 +29,13 @@ def image(connections):
 def factor(smallest, largest):
     """Of all 6 × 2^k in a range of intervals, k to 8, the largest one's 2^k, or None."""
     return max((2**k for k in range(9) if smallest <= 6 * 2**k <= largest), default=None)
+
+
+def refusal(f, floor, ceiling):
+    """The check that refuses such a share of this factor, 5 or after it 20, or None."""
+    if floor == 0 or ceiling < floor or ceiling > f:
+        return 5
+    return 20 if 2 * ceiling > f else None
 
 
 def blocks(k, anchor, length):

@@ -1,4 +1,4 @@
-//! Twenty-eight slips, one of which can be planted at a time (`peer --fault N`).
+//! Thirty-one slips, one of which can be planted at a time (`peer --fault N`).
 //! A comparison that does not find each of them is too weak.
 
 #[derive(Clone, Copy, Debug, PartialEq, Eq)]
@@ -61,10 +61,16 @@ pub enum Fault {
     ShortListMoves,
     /// 28: the entries beyond the moves are cleared.
     RestOfMovesCleared,
+    /// 29: 20 looks at twice the floor, where it is to look at twice the ceiling.
+    CapOfTheFloor,
+    /// 30: twice the ceiling equal to F is refused.
+    HalfRefused,
+    /// 31: admission checks 20 after 6.
+    RoomBeforeHalf,
 }
 
 /// The faults by number, 1 first.
-pub const FAULTS: [Fault; 28] = [
+pub const FAULTS: [Fault; 31] = [
     Fault::CountingOrder,
     Fault::TowardZero,
     Fault::FirstPeriodOnly,
@@ -93,9 +99,12 @@ pub const FAULTS: [Fault; 28] = [
     Fault::PlacedStayMoved,
     Fault::ShortListMoves,
     Fault::RestOfMovesCleared,
+    Fault::CapOfTheFloor,
+    Fault::HalfRefused,
+    Fault::RoomBeforeHalf,
 ];
 
-/// The fault with this number, 1 to 28.
+/// The fault with this number, 1 to 31.
 pub fn by_number(number: usize) -> Option<Fault> {
     FAULTS.get(number.checked_sub(1)?).copied()
 }

@@ -169,8 +169,10 @@ mod tests {
     #[test]
     fn back_again() {
         let mut schedule = Schedule::fresh(Fault::None);
-        assert!(schedule.admit(7, 6, 48, 2, 5).is_ok());
-        assert!(schedule.admit(63, 6, 3_072, 3, 256).is_ok());
+        assert!(schedule.admit(7, 6, 48, 2, 4).is_ok());
+        assert!(schedule.admit(63, 6, 3_072, 3, 128).is_ok());
+        // An older one, with a ceiling above half.
+        schedule.connections[9] = Some(Connection { k: 8, ceiling: 129, ..of_512(250) });
         let bytes = image(&schedule);
         let loaded = load(&bytes, Fault::None).map(|loaded| loaded.connections);
         assert_eq!(loaded, Ok(schedule.connections));

@@ -9,7 +9,7 @@
 //! * `image`: the image's bytes, written and read back with their checks.
 //! * `messages`: the subrate messages of the Core Specification, read and written.
 //! * `script`: the lines of text that drive it, and their answers.
-//! * `fault`: twenty-eight slips that can be planted, to show that a comparison finds them.
+//! * `fault`: thirty-one slips that can be planted, to show that a comparison finds them.
 
 #![forbid(unsafe_code)]
 

@@ -1,5 +1,5 @@
 //! peer: reads a script from standard input and prints its output.
-//! peer --fault N: the same with fault N (1 to 28) planted.
+//! peer --fault N: the same with fault N (1 to 31) planted.
 //! peer --faults: prints how many faults there are.
 
 use peer::fault::{by_number, Fault, FAULTS};

@@ -22,7 +22,7 @@ pub const HANDLES: usize = 64;
 /// subrate factor to 500, and the largest power of two below that is 256.
 pub const LARGEST_K: i64 = 8;
 
-/// The number of a refusal, 1 to 19.
+/// The number of a refusal, 1 to 20.
 pub type Refusal = u32;
 
 /// For each of the 512 blocks: does it belong to someone?
@@ -136,7 +136,16 @@ impl Schedule {
         (0..=LARGEST_K).filter(in_range).max()
     }
 
-    /// Admit: checks 1, 2, 4, 15, 5, 6. Answers F, A, L.
+    /// Is twice the ceiling above F?
+    fn above_half(&self, factor: i64, floor: i64, ceiling: i64) -> bool {
+        match self.fault {
+            Fault::CapOfTheFloor => 2 * floor > factor,
+            Fault::HalfRefused => 2 * ceiling >= factor,
+            _ => 2 * ceiling > factor,
+        }
+    }
+
+    /// Admit: checks 1, 2, 4, 15, 5, 20, 6. Answers F, A, L.
     pub fn admit(
         &mut self,
         handle: i64,
@@ -164,7 +173,12 @@ impl Schedule {
             return Err(5);
         }
 
-        let Some(anchor) = first_open(&self.taken(), k, floor, self.fault) else {
+        let open = first_open(&self.taken(), k, floor, self.fault);
+        let room_first = self.fault == Fault::RoomBeforeHalf && open.is_none();
+        if self.above_half(factor, floor, ceiling) && !room_first {
+            return Err(20);
+        }
+        let Some(anchor) = open else {
             return Err(6);
         };
         self.connections[place] = Some(Connection {
@@ -342,10 +356,12 @@ mod tests {
 
     #[test]
     fn intervals() {
-        for (interval, factor) in
-            [(6, 1), (11, 1), (12, 2), (3_071, 256), (3_072, 256), (3_200, 256)]
-        {
+        for (interval, factor) in [(12, 2), (3_071, 256), (3_072, 256), (3_200, 256)] {
             assert_eq!(fresh().admit(0, 6, interval, 1, 1), Ok((factor, 0, 1)));
+        }
+        for interval in [6, 11] {
+            assert_eq!(fresh().k_in(6, interval), Some(0));
+            assert_eq!(fresh().admit(0, 6, interval, 1, 1), Err(20));
         }
         assert_eq!(fresh().admit(0, 6, 5, 1, 1), Err(4));
         assert_eq!(fresh().admit(0, 6, 3_201, 1, 1), Err(4));
@@ -370,8 +386,11 @@ mod tests {
             (6, 3_072, 256),
             (6, 3_200, 256),
         ] {
-            assert_eq!(fresh().admit(0, smallest, largest, 1, factor), Ok((factor, 0, 1)));
-            assert_eq!(fresh().admit(0, smallest, largest, 1, factor + 1), Err(5));
+            let mut s = fresh();
+            assert_eq!(s.admit(0, smallest, largest, 1, factor + 1), Err(5));
+            assert_eq!(s.admit(0, smallest, largest, 1, factor), Err(20));
+            let half = if factor > 1 { Ok((factor, 0, 1)) } else { Err(5) };
+            assert_eq!(s.admit(0, smallest, largest, 1, factor / 2), half);
         }
         for (smallest, largest, refusal) in [
             (7, 11, 15),
@@ -391,6 +410,75 @@ mod tests {
             assert_eq!(fresh().admit(0, smallest, largest, 1, 1), Err(refusal));
             assert_eq!(fresh().admit(0, smallest, largest, 0, 0), Err(refusal));
         }
+    }
+
+    #[test]
+    fn at_most_half() {
+        for k in 0..=LARGEST_K {
+            let (factor, interval) = (1 << k, SLOTS << k);
+            let half = factor / 2;
+            for smallest in [LEAST_INTERVAL, interval] {
+                for floor in [1, half + 1] {
+                    assert_eq!(fresh().admit(0, smallest, interval, floor, half + 1), Err(20));
+                }
+                for floor in [1, half] {
+                    let admitted = fresh().admit(0, smallest, interval, floor, half);
+                    let expected = if k > 0 { Ok((factor, 0, floor)) } else { Err(5) };
+                    assert_eq!(admitted, expected);
+                }
+            }
+        }
+        // 20 beside the checks before it: handle 0 is live.
+        let mut s = fresh();
+        assert_eq!(s.admit(0, 6, 48, 1, 4), Ok((8, 0, 1)));
+        for (handle, interval, floor, ceiling, answer) in [
+            (0, 6, 1, 1, 2),
+            (64, 6, 1, 1, 1),
+            (1, 5, 1, 1, 4),
+            (1, 12, 1, 2, 20),
+            (1, 48, 1, 5, 20),
+            (1, 48, 0, 5, 5),
+            (1, 48, 1, 9, 5),
+            (1, 48, 6, 5, 5),
+        ] {
+            assert_eq!(s.admit(handle, 6, interval, floor, ceiling), Err(answer));
+        }
+        // And beside 6: without the odd blocks there is no class of F 2.
+        assert_eq!(s.admit(1, 6, 12, 1, 1), Ok((2, 1, 1)));
+        assert_eq!(s.admit(2, 6, 6, 1, 1), Err(20));
+        assert_eq!(s.admit(2, 6, 12, 1, 2), Err(20));
+        assert_eq!(s.admit(2, 6, 12, 1, 1), Err(6));
+    }
+
+    #[test]
+    fn every_fault_of_a_half() {
+        let admitted = |fault, interval, floor, ceiling| {
+            let mut s = with(Connection { k: 1, length: 1, ceiling: 1, ..one_block(5_000) });
+            s.fault = fault;
+            s.admit(1, 6, interval, floor, ceiling)
+        };
+        // The even blocks are taken.
+        let rule = Fault::None;
+        assert_eq!(admitted(rule, 12, 1, 2), Err(20));
+        assert_eq!(admitted(Fault::CapOfTheFloor, 12, 1, 2), Ok((2, 1, 1)));
+        assert_eq!(admitted(rule, 12, 1, 1), Ok((2, 1, 1)));
+        assert_eq!(admitted(Fault::HalfRefused, 12, 1, 1), Err(20));
+        assert_eq!(admitted(rule, 24, 2, 3), Err(20));
+        assert_eq!(admitted(Fault::RoomBeforeHalf, 24, 2, 3), Err(6));
+        assert_eq!(admitted(Fault::RoomBeforeHalf, 24, 1, 3), Err(20));
+    }
+
+    #[test]
+    fn more_than_half_stays_and_grows() {
+        // F 1, and a run of two of F 4 with a ceiling of 3.
+        let mut s = with(Connection { k: 0, ceiling: 1, ..one_block(7_500) });
+        assert_eq!(s.report(0, 7_500), Ok((Moved::Kept, 1)));
+        assert_eq!(s.owner(511), Some(0));
+        let two = Connection { k: 2, anchor: 3, length: 2, ceiling: 3, ..one_block(15_000) };
+        let mut s = with(two);
+        assert_eq!(s.report(0, 15_000), Ok((Moved::Grown, 3)));
+        assert_eq!((s.owner(1), s.owner(2)), (Some(0), None));
+        assert_eq!(s.report(0, 22_500), Ok((Moved::Kept, 3)));
     }
 
     #[test]
@@ -474,7 +562,8 @@ mod tests {
         assert_eq!(bits(&s), 130);
         assert_eq!(s.drop(0), Ok(()));
         assert_eq!(bits(&s), 0);
-        assert_eq!(s.admit(0, 6, 6, 1, 1), Ok((1, 0, 1)));
+        // F 1 is in older images only.
+        let s = with(Connection { k: 0, ceiling: 1, ..one_block(5_000) });
         assert_eq!(bits(&s), 1_023);
         assert_eq!(s.tree()[0], 0xFE);
         assert!(s.tree()[1..].iter().all(|&byte| byte == 0xFF));

@@ -294,7 +294,7 @@ mod tests {
     fn whole_case() {
         let input = "admit 0 48 1 4\nadmit 1 48 1 1\nreport 0 7500\nowner 9\nowner 7\n\
                      anchor 1 6\nadmit 2 6 1 1\ndrop 5\n";
-        let output = "ok 8 0 1\nok 8 4 1\ngrown 2\nowner 0\nidle\nslots 36\nno 6\nno 3\n";
+        let output = "ok 8 0 1\nok 8 4 1\ngrown 2\nowner 0\nidle\nslots 36\nno 20\nno 3\n";
         assert_eq!(right(input), output);
     }
 
@@ -336,6 +336,9 @@ mod tests {
             ("admit 0 1537 3200 1 1", "no 15"),
             ("admit 0 3072 3072 1 1", "no 15"),
             ("admit 0 3072 1 257", "no 5"),
+            ("admit 0 3072 1 256", "no 20"),
+            ("admit 0 3072 1 129", "no 20"),
+            ("admit 0 3072 1 128", "ok 256 0 1"),
         ] {
             assert_eq!(right(&format!("{line}\n")), format!("{answer}\n"), "{line}");
         }

@@ -3,7 +3,8 @@
 use crate::random::Random;
 use peer::fault::Fault;
 use peer::image::{connection_payload, image, ILLEGAL_K};
-use peer::schedule::{taken_by, tree_of, Connection, Schedule, BLOCKS, BLOCK_US, LARGEST_K};
+use peer::schedule::{taken_by, tree_of, Connection, Schedule};
+use peer::schedule::{BLOCKS, BLOCK_US, HANDLES, LARGEST_K};
 
 /// A sound schedule of up to `most` connections, many of which no row of calls
 /// would have left: any anchors, runs round the end, any estimates.
@@ -114,6 +115,70 @@ pub fn extreme_schedule(random: &mut Random, which: usize) -> Schedule {
         }
     }
     schedule
+}
+
+/// How many kinds of older schedules there are.
+pub const OLDER: usize = 6;
+
+/// Schedules that no admission leads to, as one has F 1 or a ceiling above half of F; and its
+/// handle. Where it can grow, a report at its most grows it past half.
+pub fn older_schedule(random: &mut Random, which: usize) -> (Schedule, usize) {
+    let mut schedule = Schedule::fresh(Fault::None);
+    let handle = random.place(HANDLES - 1);
+    let any = random.between(1, LARGEST_K);
+    let longer = random.between(2, LARGEST_K);
+    let older = match which % OLDER {
+        // F 1.
+        0 => at_its_most(0, 0, 1, 1),
+        // Just half, alone, at any anchor.
+        1 => half_at(random, any),
+        // F 2 beside a later period of the class that it wants; without it that class is free.
+        2 => {
+            let anchor = random.pick(&[1, 3]);
+            schedule.connections[handle + 1] = Some(with_bounds(random, 2, anchor, 1));
+            at_its_most(1, 0, 1, 2)
+        }
+        // Just half, with another's anchor right behind the block that it wants, or in it.
+        3 => {
+            let older = half_at(random, longer);
+            let next = older.anchor + older.length + random.between(0, 1);
+            let other = with_bounds(random, longer, next % older.factor(), 1);
+            schedule.connections[handle + 1] = Some(other);
+            older
+        }
+        // All blocks but some; a tidy moves it to 0, and those that have them behind it.
+        4 => {
+            let factor = 1i64 << longer;
+            let left = random.between(1, (factor / 2 - 1).min(5));
+            let anchor = random.between(0, factor - 1);
+            for at in 0..left.min((HANDLES - handle) as i64 - 1) {
+                let other = with_bounds(random, longer, (anchor + factor - 1 - at) % factor, 1);
+                schedule.connections[handle + 1 + at as usize] = Some(other);
+            }
+            let ceiling = random.between(factor - left, factor);
+            at_its_most(longer, anchor, factor - left, ceiling)
+        }
+        // Every block.
+        _ => {
+            let factor = 1i64 << any;
+            at_its_most(any, random.between(0, factor - 1), factor, factor)
+        }
+    };
+    schedule.connections[handle] = Some(older);
+    (schedule, handle)
+}
+
+/// A connection with just half of F, and a ceiling above that.
+fn half_at(random: &mut Random, k: i64) -> Connection {
+    let factor = 1i64 << k;
+    let anchor = random.between(0, factor - 1);
+    let ceiling = random.pick(&[factor / 2 + 1, factor]);
+    at_its_most(k, anchor, factor / 2, ceiling)
+}
+
+/// A connection that needs a block more than it has.
+fn at_its_most(k: i64, anchor: i64, length: i64, ceiling: i64) -> Connection {
+    Connection { k, anchor, length, floor: 1, ceiling, estimate: length * BLOCK_US }
 }
 
 /// 64 connections with this k, each with a 64th of the cycle, by rising handle.
@@ -571,6 +636,7 @@ pub fn good(random: &mut Random, most: usize) -> Vec<u8> {
 mod tests {
     use super::*;
     use peer::image::load;
+    use peer::schedule::Moved;
 
     #[test]
     fn every_damage_gets_its_refusal() {
@@ -594,6 +660,25 @@ mod tests {
                 let after = load(&bytes, Fault::FactorAfterOverlap).err();
                 let expected = if which == 69 { 11 } else { refusal };
                 assert_eq!(after, Some(expected), "damage {which}, round {round}");
+            }
+        }
+    }
+
+    #[test]
+    fn every_older_image_is_taken_and_none_is_admitted() {
+        for round in 0..600 {
+            let mut random = Random::new(round, 0);
+            let which = round as usize % OLDER;
+            let (schedule, handle) = older_schedule(&mut random, which);
+            let mut loaded = load(&image(&schedule), Fault::None).expect("it is sound");
+            let c = schedule.connections[handle].clone().expect("it is live");
+            assert!(2 * c.ceiling > c.factor(), "round {round}");
+            let grown = loaded.report(handle as i64, c.length * BLOCK_US);
+            match which {
+                1 => assert_eq!(grown, Ok((Moved::Grown, c.length + 1)), "round {round}"),
+                2 => assert_eq!(grown, Ok((Moved::Tight, 1)), "round {round}"),
+                0 | 5 => assert_eq!(grown, Ok((Moved::Kept, c.length)), "round {round}"),
+                _ => assert!(grown.is_ok(), "round {round}"),
             }
         }
     }

@@ -10,6 +10,7 @@ use crate::sheet::Sheet;
 use crate::tidies;
 use peer::image::image;
 use peer::messages::{Kind, Message, KINDS};
+use peer::schedule::{HANDLES, LARGEST_K};
 use peer::script::{hex, LONGEST_SCRIPT};
 
 /// Script number `number` (from 1) of the series `seed`.
@@ -96,22 +97,79 @@ fn tidies_in_turn(sheet: &mut Sheet, turn: usize) {
     }
 }
 
-/// A range of each kind, with a share that 5 refuses and with one that it lets
-/// pass; who is admitted leaves again.
+/// A range of each kind, with a share that 5 refuses, with one that 20 refuses and with one that
+/// both let pass; who is admitted leaves again.
 fn every_range(sheet: &mut Sheet) {
     let schedule = &sheet.session.schedule;
     let handle = lines::idle_handle(&mut sheet.random, schedule).unwrap_or(0);
     for which in 0..ranges::RANGES {
         let range = ranges::of_kind(&mut sheet.random, which);
-        for passes in [false, true] {
-            let share = ranges::share(&mut sheet.random, 1 << lines::k_of(range.1), passes);
+        for refusal in [Some(5), Some(20), None] {
+            let share = ranges::share(&mut sheet.random, 1 << lines::k_of(range.1), refusal);
             let line = lines::admission(&mut sheet.random, handle as i64, range, share);
-            if sheet.say(line).starts_with("ok") {
-                sheet.say("state");
-                sheet.say(format!("drop {handle}"));
-            }
+            come_and_go(sheet, handle, line);
         }
     }
+}
+
+/// An admission of this handle; if it is accepted, the handle leaves again.
+fn come_and_go(sheet: &mut Sheet, handle: usize, line: String) {
+    if sheet.say(line).starts_with("ok") {
+        sheet.say("state");
+        sheet.say(format!("drop {handle}"));
+    }
+}
+
+/// Ceilings of half of each factor, and one above; of a live handle too.
+fn every_half(sheet: &mut Sheet) {
+    let schedule = &sheet.session.schedule;
+    let handle = lines::idle_handle(&mut sheet.random, schedule).unwrap_or(0);
+    for k in 0..=LARGEST_K {
+        let half = (1 << k) / 2;
+        for ceiling in [half + 1, half] {
+            let line = lines::with_ceiling(&mut sheet.random, handle as i64, k, ceiling);
+            come_and_go(sheet, handle, line);
+        }
+    }
+    if let Some((live, _)) = lines::live(&mut sheet.random, &sheet.session.schedule) {
+        let line = lines::with_ceiling(&mut sheet.random, live as i64, 0, 1);
+        sheet.say(line);
+    }
+}
+
+/// An older image: its connection with F 1 or a ceiling above half grows as far as it can, the
+/// house is tidied, saved and restored, another comes, and it gets little to do or leaves.
+fn older(sheet: &mut Sheet, turn: usize) {
+    let (schedule, handle) = images::older_schedule(&mut sheet.random, turn);
+    sheet.load(&image(&schedule));
+    let other = (handle + 1) % HANDLES;
+    for _ in 0..sheet.random.between(1, 12) {
+        let length = sheet.session.schedule.connections[handle].as_ref().map_or(0, |c| c.length);
+        sheet.say(format!("report {handle} {}", 7_500 * length));
+        if sheet.random.chance(15) {
+            sheet.say(format!("drop {other}"));
+        }
+    }
+    sheet.say("state");
+    sheet.do_one(lines::question);
+    sheet.do_one(tidies::any);
+    sheet.say("save");
+    let saved = image(&sheet.session.schedule);
+    if sheet.random.chance(50) {
+        sheet.say("fresh");
+    }
+    sheet.load(&saved);
+    sheet.say("save");
+    sheet.do_one(lines::join);
+    for _ in 0..sheet.random.between(0, 6) {
+        sheet.say(format!("report {handle} 0"));
+    }
+    if sheet.random.chance(50) {
+        sheet.say(format!("drop {handle}"));
+        let line = lines::with_ceiling(&mut sheet.random, handle as i64, 0, 1);
+        sheet.say(line);
+    }
+    sheet.say("state");
 }
 
 fn kind_in_turn(turn: usize) -> Kind {
@@ -133,7 +191,7 @@ fn there_and_back(sheet: &mut Sheet, messages: &[Message]) {
 
 /// The cases that the rule sheet itself names, and such of the requests, each on a fresh schedule.
 #[rustfmt::skip]
-const NAMED: [&[&str]; 12] = [
+const NAMED: [&[&str]; 14] = [
     &["admit 0 48 1 4", "admit 1 48 1 1", "report 0 7500", "owner 9", "owner 7", "anchor 1 6",
         "admit 2 6 1 1", "drop 5"],
     &["admit 0 48 1 1", "admit 1 48 1 1", "admit 2 48 1 1", "admit 3 48 1 1", "admit 4 12 1 1",
@@ -142,9 +200,9 @@ const NAMED: [&[&str]; 12] = [
     // A run round the end: blocks 0, 2 and 1 taken, 0 freed, then 3 and 0 together.
     &["admit 0 24 1 1", "admit 1 24 1 1", "admit 2 24 1 1", "drop 0", "admit 3 24 2 2", "owner 3",
         "owner 0", "drop 3", "admit 4 24 2 2", "admit 5 24 1 1"],
-    // The class of block 1 by 2 has its first block free and its second taken.
-    &["admit 0 12 1 2", "admit 1 24 1 1", "admit 2 24 1 1", "drop 1", "report 0 7500",
-        "report 0 7500"],
+    // The class of block 1 by 4 has its first block free and its second taken.
+    &["admit 0 24 1 2", "admit 1 48 1 1", "admit 2 48 1 1", "admit 3 48 1 1", "admit 4 48 1 1",
+        "drop 3", "owner 1", "report 0 7500", "drop 4", "report 0 7500"],
     &["admit 0 48 1 1", "admit 1 48 1 1", "save", "drop 0", "save", "drop 1", "save"],
     &["admit 0 48 1 4", "reports 2 0 7500 9 0 0 7500", "reports 4 0 7500 9 0 0 7500", "reports 0"],
     &["admit 0 48 1 4 5", "admit 0 12 30 1 1", "admit 1 13 23 1 1", "admit 1 30 12 1 1",
@@ -152,11 +210,18 @@ const NAMED: [&[&str]; 12] = [
     &["message 7d200a0100f401000000000a00", "request 15 1 8 8 0 1 600", "change 15 0 1 8 0 1 600",
         "change 14 1 65535 0 0 0 0", "default 2 1 500 1 0 10", "default 2 1 500 0 0 10"],
     &["admit 0 3200 1 1", "drop 0", "admit 0 1536 3200 1 1", "drop 0", "admit 0 1537 3200 1 1",
-        "admit 0 3072 3072 1 1", "admit 0 3072 1 257", "admit 0 3072 1 256"],
+        "admit 0 3072 3072 1 1", "admit 0 3072 1 257", "admit 0 3072 1 256",
+        "admit 0 3072 1 129", "admit 0 3072 1 128"],
     &["admit 0 48 1 1", "admit 1 48 1 1", "admit 2 48 1 1", "admit 3 48 1 1", "admit 4 48 1 1",
         "admit 5 48 1 1", "admit 6 48 1 1", "admit 7 48 1 1", "drop 0", "drop 4", "admit 8 24 1 1",
         "tidy 17", "tidy 20", "admit 8 24 1 1", "tidy 0", "tidy 21", "tidy 0"],
     &["admit 0 48 2 2", "admit 1 24 1 1", "admit 2 24 1 1", "tidy 0", "tidy 9"],
+    // 20 beside 5 and 2, and alone.
+    &["admit 0 6 1 1", "admit 0 11 1 1", "admit 0 12 1 2", "admit 0 48 1 5", "admit 0 48 0 5",
+        "admit 0 48 1 9", "admit 0 48 1 4", "admit 0 6 1 1", "admit 1 12 1 1"],
+    // 20 where nothing is free.
+    &["admit 0 12 1 1", "admit 1 12 1 1", "admit 2 6 1 1", "admit 2 12 1 2", "admit 2 48 4 5",
+        "admit 2 12 1 1", "admit 2 48 4 4"],
 ];
 
 /// (b) The house is filled until there is no room, thinned, and filled again.
@@ -167,6 +232,7 @@ fn dense(sheet: &mut Sheet, turn: usize) {
     sheet.say("state");
     sheet.say("fresh");
     every_range(sheet);
+    every_half(sheet);
 
     // Half of them begin in a house that is well filled, with runs anywhere.
     if turn % 2 == 1 {
@@ -198,6 +264,7 @@ fn dense(sheet: &mut Sheet, turn: usize) {
         }
     }
     fill(sheet);
+    every_half(sheet);
     sheet.say("state");
     let messages = messages::at_the_rules(&mut sheet.random, kind_in_turn(turn));
     there_and_back(sheet, &messages);
@@ -227,7 +294,9 @@ fn fill(sheet: &mut Sheet) {
         let line = lines::crowd(&mut sheet.random, &sheet.session.schedule, 5, 8, 1);
         sheet.say(line);
     }
+    // F 2 and F 1 want the most classes.
     if let Some(handle) = lines::idle_handle(&mut sheet.random, &sheet.session.schedule) {
+        sheet.say(format!("admit {handle} 12 1 1"));
         sheet.say(format!("admit {handle} 6 1 1"));
     }
 }
@@ -495,6 +564,7 @@ fn stored(sheet: &mut Sheet, turn: usize) {
     }
     lists_in_turn(sheet, turn);
     buffers_and_statuses(sheet, turn);
+    older(sheet, turn);
     if turn % 4 == 1 {
         let line = sheet.random.pick(&["save 2048", "save 2047", "save 1290", "save 1289"]);
         sheet.say(line);
@@ -644,7 +714,11 @@ fn mix(sheet: &mut Sheet) {
             sheet.load(&bytes);
             look_round(sheet);
         }
-        91 => drop(sheet.say("fresh")),
+        91 => {
+            let turn = sheet.random.place(images::OLDER);
+            older(sheet, turn);
+            sheet.say("fresh");
+        }
         92 | 93 => fill(sheet),
         94 => push_and_let_go(sheet),
         95 => {

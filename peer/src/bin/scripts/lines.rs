@@ -147,6 +147,16 @@ fn interval_of(random: &mut Random, k: i64) -> i64 {
     random.between(low, high)
 }
 
+/// The most that a ceiling is to be with this factor: mostly half of it (1 for F 1), and now and
+/// then so much that 20 or 5 may refuse it.
+fn highest(random: &mut Random, factor: i64, beyond: i64) -> i64 {
+    if random.chance(90) {
+        (factor / 2).max(1)
+    } else {
+        beyond
+    }
+}
+
 /// A logger as one would meet it: a long interval, a small floor and ceiling.
 pub fn join(random: &mut Random, schedule: &Schedule) -> String {
     let handle = new_handle(random, schedule);
@@ -159,7 +169,8 @@ pub fn join(random: &mut Random, schedule: &Schedule) -> String {
     let smallest = smallest_for(random, interval);
     let floor = random.pick(&[1, 1, 1, 1, 1, 1, 2, 2, 3, 4]);
     let ceiling = floor + random.pick(&[0, 0, 1, 1, 2, 3, 4, 6]);
-    admission(random, handle, (smallest, interval), (floor, ceiling))
+    let most = highest(random, 1 << k_of(interval), ceiling);
+    admission(random, handle, (smallest, interval), (floor.min(most), ceiling.min(most)))
 }
 
 /// An admission that takes much: any factor from 2^low to 2^high, up to a
@@ -170,11 +181,12 @@ pub fn crowd(random: &mut Random, schedule: &Schedule, low: i64, high: i64, shar
     let factor = 1 << k;
     let interval = interval_of(random, k);
     let smallest = smallest_for(random, interval);
-    let floor = random.between(1, (factor * share / 100).max(1));
+    let most = highest(random, factor, factor);
+    let floor = random.between(1, (factor * share / 100).clamp(1, most));
     let ceiling = match random.between(0, 3) {
         0 => floor,
-        1 => factor,
-        _ => random.between(floor, factor),
+        1 => most,
+        _ => random.between(floor, most),
     };
     admission(random, handle, (smallest, interval), (floor, ceiling))
 }
@@ -189,8 +201,23 @@ pub fn edge_admission(random: &mut Random, schedule: &Schedule) -> String {
     let smallest = if random.chance(50) { LEAST_INTERVAL } else { edge_interval(random) };
     let largest = edge_interval(random);
     let factor = 1 << k_of(largest);
-    let floor =
-        random.pick(&[0, 1, 1, 1, 2, factor - 1, factor, factor + 1, 65_537, 4_294_967_295]);
+    let half = factor / 2;
+    let floor = random.pick(&[
+        0,
+        0,
+        1,
+        1,
+        1,
+        1,
+        2,
+        half,
+        half,
+        half + 1,
+        factor,
+        factor + 1,
+        65_537,
+        4_294_967_295,
+    ]);
     let ceiling = random.pick(&[
         0,
         1,
@@ -198,8 +225,11 @@ pub fn edge_admission(random: &mut Random, schedule: &Schedule) -> String {
         floor,
         floor - 1,
         floor + 1,
-        factor - 1,
-        factor,
+        half - 1,
+        half,
+        half,
+        half + 1,
+        half + 1,
         factor,
         factor + 1,
         65_537,
@@ -224,9 +254,18 @@ pub fn ranged(random: &mut Random, schedule: &Schedule) -> String {
     let handle = new_handle(random, schedule);
     let which = random.place(ranges::RANGES);
     let (smallest, largest) = ranges::of_kind(random, which);
-    let passes = random.chance(70);
-    let share = ranges::share(random, 1 << k_of(largest), passes);
+    let refusal = random.pick(&[None, None, None, Some(20), Some(5)]);
+    let share = ranges::share(random, 1 << k_of(largest), refusal);
     admission(random, handle, (smallest, largest), share)
+}
+
+/// An admission with this k and ceiling, by one interval or by a range, with a floor of 1 or as
+/// large as the ceiling.
+pub fn with_ceiling(random: &mut Random, handle: i64, k: i64, ceiling: i64) -> String {
+    let interval = interval_of(random, k);
+    let smallest = random.pick(&[LEAST_INTERVAL, SLOTS << k]);
+    let floor = random.pick(&[1, 1, ceiling]);
+    admission(random, handle, (smallest, interval), (floor, ceiling))
 }
 
 pub fn report(random: &mut Random, schedule: &Schedule) -> String {

@@ -70,12 +70,30 @@ pub fn of_kind(random: &mut Random, which: usize) -> (i64, i64) {
     }
 }
 
-/// A share that 5 lets pass with this factor, or one that it refuses: floor and ceiling.
-pub fn share(random: &mut Random, factor: i64, passes: bool) -> (i64, i64) {
-    if passes {
-        random.pick(&[(1, 1), (1, 1), (1, factor), (factor, factor)])
-    } else {
-        random.pick(&[(0, 0), (0, 1), (2, 1), (1, factor + 1), (factor + 1, factor + 1)])
+/// A share, floor and ceiling, that 5 refuses with this factor, or 20, or none of the two. With F 1
+/// there is none that 20 lets pass.
+pub fn share(random: &mut Random, factor: i64, refusal: Option<u32>) -> (i64, i64) {
+    let half = (factor / 2).max(1);
+    let above = factor / 2 + 1;
+    match refusal {
+        Some(5) => {
+            let more = factor + 1;
+            // The last five would be for 20 too.
+            random.pick(&[
+                (0, 0),
+                (0, 1),
+                (2, 1),
+                (0, above),
+                (more, factor),
+                (1, more),
+                (1, more),
+                (more, more),
+            ])
+        }
+        Some(_) => {
+            random.pick(&[(1, above), (1, above), (above, above), (1, factor), (factor, factor)])
+        }
+        None => random.pick(&[(1, 1), (1, 1), (1, half), (half, half)]),
     }
 }
 
@@ -93,20 +111,26 @@ mod tests {
             for which in 0..RANGES {
                 let (smallest, largest) = of_kind(&mut random, which);
                 let factor = 1 << k_of(largest);
-                let mut answer = |passes: bool| {
-                    let (floor, ceiling) = share(&mut random, factor, passes);
+                let mut answer = |refusal: Option<u32>| {
+                    let (floor, ceiling) = share(&mut random, factor, refusal);
                     let mut schedule = Schedule::fresh(Fault::None);
                     schedule.admit(0, smallest, largest, floor, ceiling).map(|(f, a, _)| (f, a))
                 };
-                let (good, refused) = (answer(true), answer(false));
+                let good = answer(None);
                 match which {
                     2 | 3 => assert_eq!(good, Err(15), "{smallest} to {largest}"),
+                    5 if factor == 1 => assert_eq!(good, Err(20), "{smallest} to {largest}"),
                     5 => assert_eq!(good, Ok((factor, 0)), "{smallest} to {largest}"),
                     6..=9 => assert_eq!(good, Err(4), "{smallest} to {largest}"),
                     _ => {}
                 }
-                let expected = if good.is_ok() { Err(5) } else { good };
-                assert_eq!(refused, expected, "{smallest} to {largest}");
+                for refusal in [5, 20] {
+                    let expected = match good {
+                        Ok(_) | Err(20) => Err(refusal),
+                        before => before,
+                    };
+                    assert_eq!(answer(Some(refusal)), expected, "{smallest} to {largest}");
+                }
             }
         }
     }
