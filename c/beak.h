@@ -132,7 +132,7 @@ static inline void beak_start(struct beak *s) {
 
 /* Admit a connection with a smallest and a largest interval in slots: PLACED, by the largest 6 * 2^k, k to 8, that is not above the largest and not below
  * the smallest. Refused, in this order: 1 handle above 63, 2 handle live, 4 either bound outside 6 to 3,200 or smallest above largest, 15 no such interval
- * in the range, 5 floor or ceiling wrong, 6 no open anchor. */
+ * in the range, 5 floor or ceiling wrong, 20 twice the ceiling above the factor (always so with a factor of 1), 6 no open anchor. */
 static inline struct beak_said beak_admit(struct beak *s, uint32_t handle, uint32_t smallest, uint32_t largest, uint32_t floor, uint32_t ceiling) {
     struct beak_called r = beak_admitted(*s, handle, smallest, largest, floor, ceiling);
     *s = r.schedule;
@@ -193,7 +193,7 @@ static inline struct beak_said beak_tidy(struct beak *s, struct beak_move *moves
 
 /* Load an image in place of the schedule: LOADED. Refused, in this order: 9 records wrong, 10 numbers not sound, 18 a factor of 512 and everything
  * else of its records sound, 11 a block owned twice, 12 tree bytes wrong. A house whose image gets 18 is joined afresh: start anew and admit its
- * loggers again. */
+ * loggers again. A connection of an older image may have a ceiling of more than half its factor, which no admission gives: it stays, and may grow to it. */
 static inline struct beak_said beak_load(struct beak *s, const uint8_t *bytes, size_t size) {
     const uint8_t none = 0;
     struct beak_called r = beak_loaded(*s, size != 0 ? bytes : &none, size);

@@ -1,5 +1,5 @@
 /* The rule sheet's whole case, call by call; a save, a fresh start, and a load of those bytes; reports of a whole cycle at once; admissions by a range;
- * a tidy; and subrate messages. */
+ * the most that one may have; a tidy; and subrate messages. */
 #include <stdbool.h>
 #include <stdio.h>
 #include <string.h>
@@ -55,7 +55,7 @@ static void whole_case(void) {
     told("owner 9            owner 0", beak_owner(&house, 9), BEAK_OWNER, 0, 0, 0);
     told("owner 7            idle", beak_owner(&house, 7), BEAK_IDLE, 0, 0, 0);
     told("anchor 1 6         slots 36", beak_anchor(&house, 1, 6), BEAK_SLOTS, 36, 0, 0);
-    told("admit 2 6 1 1      no 6", beak_admit(&house, 2, BEAK_LEAST_INTERVAL, 6, 1, 1), BEAK_REFUSED, 6, 0, 0);
+    told("admit 2 6 1 1      no 20", beak_admit(&house, 2, BEAK_LEAST_INTERVAL, 6, 1, 1), BEAK_REFUSED, 20, 0, 0);
     told("drop 5             no 3", beak_drop(&house, 5), BEAK_REFUSED, 3, 0, 0);
 }
 
@@ -76,6 +76,10 @@ static void save_and_load(void) {
     image[11] = 9; /* k of the first connection */
     told("load with a k of 9", beak_load(&other, image, saved.first), BEAK_REFUSED, 18, 0, 0);
     expect(memcmp(&house, &other, sizeof house) == 0, "a refused load leaves the schedule as it was");
+
+    image[11] = 3;
+    image[18] = 8; /* its ceiling, all of F 8: no admission gives it, and an older image may have it */
+    told("load a ceiling of 8", beak_load(&other, image, saved.first), BEAK_LOADED, 2, 0, 0);
 }
 
 /* Of three reports the second is of a handle that is not live, and the third of the same as the first; a fourth entry is left over. */
@@ -109,6 +113,14 @@ static void by_a_range(void) {
     told("admit 1 13 23 1 1  no 15", beak_admit(&other, 1, 13, 23, 1, 1), BEAK_REFUSED, 15, 0, 0);
     told("admit 1 3200 1 1   ok 256 2 1", beak_admit(&other, 1, BEAK_LEAST_INTERVAL, 3200, 1, 1), BEAK_PLACED, 256, 2, 1);
     told("from 1537 to 3200  no 15", beak_admit(&other, 2, 1537, 3200, 1, 1), BEAK_REFUSED, 15, 0, 0);
+}
+
+/* A ceiling is at most half of F. That F 1 is turned away is in the whole case. */
+static void at_most_half(void) {
+    struct beak other;
+    beak_start(&other);
+    told("admit 0 48 1 5     no 20", beak_admit(&other, 0, BEAK_LEAST_INTERVAL, 48, 1, 5), BEAK_REFUSED, 20, 0, 0);
+    told("admit 0 48 1 4     ok 8 0 1", beak_admit(&other, 0, BEAK_LEAST_INTERVAL, 48, 1, 4), BEAK_PLACED, 8, 0, 1);
 }
 
 /* An entry of a tidy, which must be this. */
@@ -212,6 +224,7 @@ int main(void) {
     save_and_load();
     reports_at_once();
     by_a_range();
+    at_most_half();
     close_up();
     no_anchor_for_all();
     subrate_commands();

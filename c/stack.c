@@ -1,5 +1,6 @@
 /* How much stack each call takes, with the copies of beak.h: it is made on a stack that was painted before, and from the deepest byte that is
- * no longer paint on it is counted. Of each call the case that goes deepest: the whole tree taken or given back, a full house, an allowed message. */
+ * no longer paint on it is counted. Of each call the case that goes deepest: as much of the tree taken or given back as the call can, a full house, an
+ * allowed message. An admission takes half of the blocks at most; F 1, and a logger of F 2 that grows, come by a load. */
 #include <stdio.h>
 #include <string.h>
 #include <ucontext.h>
@@ -20,9 +21,8 @@ static size_t size;
 static ucontext_t here, there;
 
 static void nothing(void) {}
-static void admit_whole(void) { said = beak_admit(&s, 0, BEAK_LEAST_INTERVAL, 6, 1, 1); }
-static void admit_longest(void) { said = beak_admit(&s, 0, BEAK_LEAST_INTERVAL, 3072, 256, 256); }
-static void admit_half(void) { said = beak_admit(&s, 0, BEAK_LEAST_INTERVAL, 12, 1, 2); }
+static void admit_half(void) { said = beak_admit(&s, 0, BEAK_LEAST_INTERVAL, 12, 1, 1); }
+static void admit_longest(void) { said = beak_admit(&s, 0, BEAK_LEAST_INTERVAL, 3072, 128, 128); }
 static void drop(void) { said = beak_drop(&s, 0); }
 static void report(void) { said = beak_report(&s, 0, 7500); }
 static void report_all(void) { said = beak_report_all(&s, cycle, 64, answers, 64); }
@@ -44,6 +44,24 @@ static void write_request(void) {
 static void write_change(void) { said = beak_write_change(changed, image, sizeof image); }
 
 static void fresh(void) { beak_start(&s); }
+
+/* The image of one connection of F 1: handle, k, anchor, length, floor, ceiling, estimate; and the tree, in which every node is taken. */
+static void write_whole(void) {
+    const uint8_t records[28] = {2, 0, 1, 0, 1, 0, 14, 0, 2, 0, 0, 0, 0, 0, 1, 0, 1, 0, 1, 0, 0x88, 0x13, 0, 0, 128, 0, 3, 0};
+    memcpy(image, records, sizeof records);
+    memset(image + 28, 0xFF, 128);
+    image[28] = 0xFE;
+    size = 156;
+}
+
+/* One of F 2 that may grow: as it is admitted, and then saved and loaded with a ceiling of 2. */
+static void half(void) {
+    fresh();
+    admit_half();
+    save();
+    image[18] = 2;
+    load();
+}
 
 static void fill(void) {
     fresh();
@@ -74,18 +92,17 @@ static void measure(const char *call, const char *which, void (*made)(void)) {
 }
 
 int main(void) {
-    measure("admit", "the whole tree", admit_whole);
-    save();
-    measure("drop", "the whole tree", drop);
+    measure("admit", "half of the tree", admit_half);
+    fresh();
+    measure("admit", "a run of 128 blocks", admit_longest);
+    fresh();
+    write_whole();
     measure("load", "the whole tree", load);
     measure("tidy", "the whole tree", tidy);
-    fresh();
-    measure("admit", "a run of 256 blocks", admit_longest);
-    fresh();
-    admit_half();
+    measure("drop", "the whole tree", drop);
+    half();
     measure("report", "grown, half of the tree", report);
-    fresh();
-    admit_half();
+    half();
     gather();
     measure("reports", "64, the first grown, half of the tree", report_all);
     fill();

@@ -2,6 +2,7 @@
 ghost use Prim.Native.Nat.{_<_, _≤_, _^_};
 ghost use Rattle.rules.specs.Time.{listBlocks};
 ghost use Rattle.rules.specs.Classes.{depth};
+use image::load;
 use rules::DEPTH;
 use rules::LEAST_INTERVAL;
 use rules::Schedule;
@@ -25,13 +26,27 @@ fn say_bits(s: Schedule) {
     show::end();
 }
 
-// The same connections, admitted; and none.
-fn admitted() {
+// Schedules: none live; F 8 admitted; F 1 refused; F 1 of an older image, and its drop.
+fn scheduled() {
     say_bits(fresh());
     let eighth = admit(fresh(), 0, LEAST_INTERVAL, 48, 1, 1);
     say_bits(eighth.schedule);
-    let whole = admit(fresh(), 63, LEAST_INTERVAL, 6, 1, 1);
+    let refused = admit(fresh(), 63, LEAST_INTERVAL, 6, 1, 1);
+    say_bits(refused.schedule);
+    // an image: one connection, handle 63, of F 1 with length, floor and ceiling 1, at rest; and its tree
+    let whole = load(
+        fresh(),
+        b"\x02\0\x01\0\x01\0\
+        \x0e\0\x02\0\x3f\0\0\0\x01\0\x01\0\x01\0\x88\x13\0\0\
+        \x80\0\x03\0\
+        \xfe\xff\xff\xff\xff\xff\xff\xff\xff\xff\xff\xff\xff\xff\xff\xff\xff\xff\xff\xff\xff\xff\xff\xff\xff\xff\xff\xff\xff\xff\xff\xff\
+        \xff\xff\xff\xff\xff\xff\xff\xff\xff\xff\xff\xff\xff\xff\xff\xff\xff\xff\xff\xff\xff\xff\xff\xff\xff\xff\xff\xff\xff\xff\xff\xff\
+        \xff\xff\xff\xff\xff\xff\xff\xff\xff\xff\xff\xff\xff\xff\xff\xff\xff\xff\xff\xff\xff\xff\xff\xff\xff\xff\xff\xff\xff\xff\xff\xff\
+        \xff\xff\xff\xff\xff\xff\xff\xff\xff\xff\xff\xff\xff\xff\xff\xff\xff\xff\xff\xff\xff\xff\xff\xff\xff\xff\xff\xff\xff\xff\xff\xff",
+    );
     say_bits(whole.schedule);
+    show::bytes(&whole.schedule.tree.bytes);
+    show::end();
     let dropped = drop(whole.schedule, 63);
     say_bits(dropped.schedule);
 }
@@ -114,7 +129,7 @@ fn main() {
     show::end();
     show::bytes(&whole);
     show::end();
-    admitted();
+    scheduled();
     say_agreeing();
     say_mirrored(4294967295);
     say_mirrored(65538);
