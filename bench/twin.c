@@ -150,6 +150,7 @@ __attribute__((noinline)) static int admit(struct schedule *s, uint32_t handle, 
     uint32_t f = 1u << k;
     if (6 * f < smallest) return 15;
     if (floor == 0 || ceiling < floor || f < ceiling) return 5;
+    if (f / 2 < ceiling) return 20;
     int anchor = place(s->tree, k, floor);
     if (anchor < 0) return 6;
     set_run(s->tree, k, anchor, 0, floor, true);
