@@ -34,7 +34,7 @@ abbrev Keeps : Schedule → Outcome → Type 0
 Keeps s o = (n : ℕ) → o .answer ≡ refused n → o .schedule ≡ s
 
 -- A report that is carried out answers with a word.
-answered : (f : ℕ → Bool) (c : Connection) (sample n : ℕ) → reportAnswer f c sample ≡ refused n → ⊥
+pub answered : (f : ℕ → Bool) (c : Connection) (sample n : ℕ) → reportAnswer f c sample ≡ refused n → ⊥
 unfolding reportAnswer
 answered f c sample n =
     change-cases (c .length) (aim c sample) (roomToGrow f c) (λ a M. a ≡ refused n → ⊥)

@@ -169,3 +169,8 @@ refused-at cs answer done e never d i other l =
 pub refusing-at : (cs : List Check) (s : Schedule) (done : Outcome) → ((n : ℕ) → done .answer ≡ refused n → ⊥) → distinct cs ≡ true → (i : ℕ) (other : Check) → i < length cs
     → (decided cs (refusing s) done .answer ≡ refused (number (getD cs i other .why))) ↔ (Passed (take i cs) × (getD cs i other .refuses ≡ true))
 refusing-at cs s done = refused-at cs (decided cs (refusing s) done .answer) (done .answer) (decided-map (λ (o : Outcome). o .answer) cs (refusing s) done)
+
+-- A number that no check has is never given.
+pub refused-without : (cs : List Check) (answer done : Answer) → answer ≡ decided cs refused done → ((n : ℕ) → done ≡ refused n → ⊥) → (n : ℕ) → without n cs ≡ true
+    → answer ≡ refused n → ⊥
+refused-without cs answer done e never n w q = without-first cs n w (refused-exactly cs done never n .0 (sym e ∙ q))

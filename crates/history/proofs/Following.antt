@@ -1,13 +1,22 @@
 -- Runs of the rule sheet's step: the schedule is the one after the history, and is good; and every run of the code is one.
 use mathlib.Core.Path.{_≡_, ap, _∙_, subst⁻¹}
+use mathlib.Core.Bool.{true}
 use mathlib.Core.List.{List, [], _∷_}
+use Prim.Native.Nat.{ℕ}
+use lib.ListN.{length}
 use Rattle.rules.specs.declared.Schedule.{Schedule}
+use Rattle.rules.specs.Ownership.{handles}
+use Rattle.rules.specs.Sound.{sound}
 use Rattle.rules.specs.Good.{Good}
+use Rattle.rules.specs.Handles.{connection}
+use Rattle.rules.specs.Image.{IsImage}
+use Rattle.rules.specs.Load.{load}
 use Rattle.blocks.proofs.SoundLaws.{Sound}
 use Rattle.blocks.proofs.ScheduleLaws.{fresh-is-good, good-sound}
 use Rattle.calls.proofs.CallLaws.{admits, drops, reports, tidies, call-good}
 use Rattle.calls.proofs.ReportsLaws.{report-all-good}
 use Rattle.images.proofs.ImageLaws.{load-good}
+use Rattle.images.proofs.RoundTrip.{round-connection}
 use Rattle.history.specs.Calls.{Call, Admit, Drop, Report, Reports, Owner, Anchor, Save, Load, Tidy, Lent, Result, beside, asked, filled, written, ruledCall, ruled}
 use Rattle.history.specs.Runs.{Start, Fresh, startOf, History, begin, next, after, Made, Run, begun, more, now, historyOf, followed, StepFunction, By}
 use Rattle.history.specs.Code.{StartsAs, Meets, Coded}
@@ -54,6 +63,11 @@ now-good run b = subst⁻¹ Good (now-after run b) (after-good (historyOf run))
 -- What soundness means, after any run.
 pub now-sound : (run : Run) → By ruled run → Sound (now run .connections)
 now-sound run b = good-sound (now run) (now-good run b)
+
+-- What a restore of an image brings.
+pub restored-connection : (s t : Schedule) (list : List ℕ) → length (t .connections) ≡ handles → sound t ≡ true → IsImage list t
+    → (x : ℕ) → connection t x .live ≡ true → connection (load s list .schedule) x ≡ connection t x
+restored-connection s t list long isSound image x live = ap (λ (l : List ℕ). connection (load s l .schedule) x) image ∙ round-connection s t long isSound x live
 
 -- A part of a run is one.
 pub earlier-by : (step : StepFunction) (run : Run) (later : List Made) → By step (followed run later) → By step run

@@ -4,20 +4,71 @@ use mathlib.Core.Bool.{true}
 use mathlib.Core.List.{List, [], _∷_}
 use Prim.Native.Nat.{ℕ, _*_, _^_, _≤_}
 use native.Mathlib.Omega.{arith}
+use lib.ListN.{length}
 use Rattle.rules.specs.declared.Connection.{Connection}
-use Rattle.rules.specs.Ownership.{factor}
+use Rattle.rules.specs.declared.Schedule.{Schedule}
+use Rattle.rules.specs.declared.Refusal.the-variants.{CeilingAboveHalf}
+use Rattle.rules.specs.Below.{least}
+use Rattle.rules.specs.Ownership.{handles, factor, owns, taken}
+use Rattle.rules.specs.Refusals.{number, Check, decided}
 use Rattle.rules.specs.Handles.{connection, isLive}
-use Rattle.rules.specs.Answers.{ok}
-use Rattle.rules.specs.Load.{load}
+use Rattle.rules.specs.Answers.{Outcome, Listed, Written, refused, refusing, refusingList, refusingBuffer, ok, slots}
+use Rattle.rules.specs.Drop.{dropChecks, dropDone, dropHandle}
+use Rattle.rules.specs.Report.{reportChecks, reportDone, report}
+use Rattle.rules.specs.Reports.{reportsChecks, reportsDone, reportAll}
+use Rattle.rules.specs.Owner.{ownerOf}
+use Rattle.rules.specs.Anchor.{slotsToAnchor, anchorChecks, anchor}
+use Rattle.rules.specs.Save.{saveChecks, saveDone, save}
+use Rattle.rules.specs.Load.{loadChecks, loadDone, load}
+use Rattle.rules.specs.Tidy.{tidyChecks, tidyDone, tidy}
+use Rattle.calls.proofs.RefusalLaws.{decided-map, without, refused-without}
+use Rattle.calls.proofs.CallLaws.{answered}
 use Rattle.calls.proofs.HalfLaws.{HalfStored, admit-half}
-use Rattle.images.proofs.RoundTrip.{round-connection}
-use Rattle.history.specs.Calls.{Call, Admit, Result, ruledCall, ruled}
+use Rattle.history.specs.Calls.{Call, Admit, Drop, Report, Reports, Owner, Anchor, Save, Load, Tidy, Lent, Result, ruledCall, ruled}
 use Rattle.history.specs.Runs.{Made, Run, more, now, after, historyOf, followed, System, By}
 use Rattle.history.specs.Moments.{AdmissionOf, Begins, admitted, restored}
 use Rattle.history.specs.Demands.{Demand1, Demand2, Demand3}
-use Rattle.history.specs.AtMostHalf.{AdmittedWithin, BeginsWithin, LastsWithin, RestoredWithin, NoneTakesHouse, AtMostHalf}
-use Rattle.history.proofs.Following.{now-good, result-is}
+use Rattle.history.specs.AtMostHalf.{AdmittedWithin, AdmissionsAlone, BeginsWithin, LastsWithin, RestoredWithin, NoneTakesHouse, AtMostHalf}
+use Rattle.history.proofs.Following.{now-good, result-is, restored-connection}
+use Rattle.history.proofs.Refusing.{owner-answers}
 
+-- ---- 20 is an admission's
+-- Who answers by checks without it, and else with no refusal, does not give it.
+module _ (cs : List Check) (without-20 : without (number CeilingAboveHalf) cs ≡ true) where
+  outcome-never : (s : Schedule) (done : Outcome) → ((n : ℕ) → done .answer ≡ refused n → ⊥) → decided cs (refusing s) done .answer ≡ refused (number CeilingAboveHalf) → ⊥
+  outcome-never s done never = refused-without cs _ (done .answer) (decided-map (λ (o : Outcome). o .answer) cs (refusing s) done) never (number CeilingAboveHalf) without-20
+
+  listed-never : (s : Schedule) (list : List ℕ) (done : Listed) → ((n : ℕ) → done .answer ≡ refused n → ⊥)
+      → decided cs (refusingList s list) done .answer ≡ refused (number CeilingAboveHalf) → ⊥
+  listed-never s list done never = refused-without cs _ (done .answer) (decided-map (λ (o : Listed). o .answer) cs (refusingList s list) done) never (number CeilingAboveHalf) without-20
+
+abbrev Asks : Call → Type 0
+Asks call = (x : ℕ) × (lo : ℕ) × (hi : ℕ) × (floor : ℕ) × (ceiling : ℕ) × AdmissionOf call x lo hi floor ceiling
+
+asks-alone : (s : Schedule) (call : Call) (lent : Lent) → ruledCall s call lent .answer ≡ refused (number CeilingAboveHalf) → Asks call
+unfolding ruledCall dropHandle dropDone report reportDone reportAll reportsDone ownerOf anchor save saveChecks saveDone load loadChecks loadDone tidy tidyChecks tidyDone
+asks-alone s (Admit x lo hi f c) lent e = (x, lo, hi, f, c, refl)
+asks-alone s (Drop x) lent e = absurd (outcome-never (dropChecks s x) refl s (dropDone s x) (λ n q. let z : _≡_ {A = ℕ} 0 1 = cc in omega arith) e)
+asks-alone s (Report x sample) lent e =
+    absurd (outcome-never (reportChecks s x sample) refl s (reportDone s x sample) (λ n q. answered (taken (s .connections)) (connection s x) sample n q) e)
+asks-alone s (Reports reports) lent e =
+    absurd
+    (listed-never (reportsChecks (length reports) (length (lent .list))) refl s (lent .list) (reportsDone s reports (lent .list)) (λ n q. let z : _≡_ {A = ℕ} 0 1 = cc in omega arith) e)
+asks-alone s (Owner b) lent e = absurd (owner-answers (least handles (λ x. owns (connection s x) b)) (number CeilingAboveHalf) e)
+asks-alone s (Anchor x b) lent e =
+    absurd
+    (refused-without (anchorChecks s x) _ (slots (slotsToAnchor (connection s x) b)) refl (λ n q. let z : _≡_ {A = ℕ} 0 1 = cc in omega arith) (number CeilingAboveHalf) refl e)
+asks-alone s Save lent e =
+    absurd
+    (refused-without (saveChecks s (lent .buffer)) _ (saveDone s (lent .buffer) .answer)
+    (decided-map (λ (w : Written). w .answer) (saveChecks s (lent .buffer)) (refusingBuffer (lent .buffer)) (saveDone s (lent .buffer)))
+    (λ n q. let z : _≡_ {A = ℕ} 0 1 = cc in omega arith) (number CeilingAboveHalf) refl e)
+asks-alone s (Load bytes) lent e =
+    absurd (outcome-never (loadChecks (bytes .list)) refl s (loadDone (bytes .list)) (λ n q. let z : _≡_ {A = ℕ} 0 1 = cc in omega arith) e)
+asks-alone s Tidy lent e =
+    absurd (listed-never (tidyChecks (s .connections) (lent .list)) refl s (lent .list) (tidyDone s (lent .list)) (λ n q. let z : _≡_ {A = ℕ} 0 1 = cc in omega arith) e)
+
+-- ---- whoever meets the demands
 module _ (S : System) (one : Demand1 S) (two : Demand2 S) (three : Demand3 S) (cap : AdmittedWithin S) where
   -- What was made before is itself a run.
   before : (run : Run) (later : List Made) → S (followed run later) → S run
@@ -35,8 +86,7 @@ module _ (S : System) (one : Demand1 S) (two : Demand2 S) (three : Demand3 S) (c
       let was = after (historyOf run) in
       let e : connection (after (historyOf (more run m))) x ≡ connection t x =
       ap (λ (call : Call). connection (ruledCall was call (m .request .lent) .schedule) x) p
-      ∙ ap (λ (list : List ℕ). connection (load was list .schedule) x) image
-      ∙ round-connection was t long isSound x live in
+      ∙ restored-connection was t (bytes .list) long isSound image x live in
       let mine = two .connections (more run m) x s .numbers (ap (λ (c : Connection). c .live) e ∙ live) ∙ e in
       rw mine w
 
@@ -77,8 +127,12 @@ module _ (S : System) (one : Demand1 S) (two : Demand2 S) (three : Demand3 S) (c
       lasts-within run x (l .0) (l .1) s a
       (begins-within (a .earlier) (a .first) x (l .0) (l .1) (restored-before first (a .between) (subst RestoredWithin (a .whole) w)) (a .begins))
 
+  -- Each answer is the rule's.
+  admissions-alone : AdmissionsAlone S
+  admissions-alone run m s a = asks-alone (after (historyOf run)) (m .request .call) (m .request .lent) (sym (two .results run m s .0) ∙ a)
+
   pub at-most-half : AtMostHalf S
-  at-most-half = record { admits = cap; lasts = lasts-within; house = none-takes-house }
+  at-most-half = record { admits = cap; alone = admissions-alone; lasts = lasts-within; house = none-takes-house }
 
 -- ---- the rule sheet's step
 half-stored : (run : Run) (m : Made) (x lo hi floor ceiling F A L : ℕ) → By ruled (more run m) → AdmissionOf (m .request .call) x lo hi floor ceiling

@@ -9,16 +9,14 @@ use Rattle.rules.specs.declared.Connection.{Connection}
 use Rattle.rules.specs.Ownership.{handles}
 use Rattle.rules.specs.Handles.{connection, isLive}
 use Rattle.rules.specs.Report.{metered}
-use Rattle.rules.specs.Load.{load}
 use Rattle.rules.specs.Tidy.{withAnchor}
 use Rattle.blocks.proofs.ScheduleLaws.{at-free}
 use Rattle.calls.proofs.AdmitLaws.{admit-stored}
-use Rattle.images.proofs.RoundTrip.{round-connection}
 use Rattle.history.specs.Calls.{Admit, Load, Result, ruledCall, ruled}
 use Rattle.history.specs.Runs.{Start, Fresh, startOf, Made, Run, begun as run-begun, more, now, followed, By}
 use Rattle.history.specs.Moments.{Begins, admitted, restored, Ends, drops, replaced as ends-replaced, Lasts, Unreported, Untidied, Alive}
 use Rattle.history.specs.Demands.{Bounded, Steady, Lives}
-use Rattle.history.proofs.Following.{now-good, now-sound, result-is, earlier-by}
+use Rattle.history.proofs.Following.{now-good, now-sound, result-is, restored-connection, earlier-by}
 use Rattle.history.proofs.Effects.{Quiet, Effect, kept, moved, tidied-up, begun, ended, replaced, effect}
 
 -- ---- what lasts
@@ -106,8 +104,7 @@ begins-stands run m by x floor ceiling (admitted lo hi p (F, A, L, a)) =
 begins-stands run m by x floor ceiling (restored bytes (p, (n, a)) t long isSound image live f c) =
     let e : connection (m .result .schedule) x ≡ connection t x =
     ap (λ (r : Result). connection (r .schedule) x) (result-is run m by (Load bytes) p)
-    ∙ ap (λ (list : List ℕ). connection (load (now run) list .schedule) x) image
-    ∙ round-connection (now run) t long isSound x live in
+    ∙ restored-connection (now run) t (bytes .list) long isSound image x live in
     rw e (record { live = live; floored = f; ceiled = c })
 
 -- and as long as nothing ends it.

@@ -15,7 +15,7 @@ use Rattle.rules.specs.Save.{saveChecks, saveDone, save}
 use Rattle.rules.specs.Reports.{reportAll}
 use Rattle.rules.specs.Tidy.{tidy}
 use Rattle.calls.proofs.RefusalLaws.{InTable}
-use Rattle.calls.proofs.CallLaws.{Tabled, Leaves, tabled, refusal-in-table, refusal-keeps-schedule, refusal-keeps-buffer}
+use Rattle.calls.proofs.CallLaws.{Leaves, tabled, refusal-in-table, refusal-keeps-schedule, refusal-keeps-buffer}
 use Rattle.calls.proofs.ReportsLaws.{refusal-listed}
 use Rattle.calls.proofs.TidyLaws.{tidy-refusal-listed}
 use Rattle.images.proofs.LoadLaws.{load-in-table, load-keeps}
@@ -28,9 +28,10 @@ abbrev Left : Schedule → Lent → Result → ℕ → Type 0
 Left s lent t n = InTable n × (t .schedule ≡ s) × (t .lent ≡ lent)
 
 -- ---- of a question
-owner-tabled : (o : Option ℕ) → Tabled (ownerOr o)
-owner-tabled none n e = let z : _≡_ {A = ℕ} 0 1 = cc in absurd (omega arith)
-owner-tabled (some x) n e = let z : _≡_ {A = ℕ} 0 1 = cc in absurd (omega arith)
+-- "Never refused."
+pub owner-answers : (o : Option ℕ) (n : ℕ) → ownerOr o ≡ refused n → ⊥
+owner-answers none n e = let z : _≡_ {A = ℕ} 0 1 = cc in omega arith
+owner-answers (some x) n e = let z : _≡_ {A = ℕ} 0 1 = cc in omega arith
 
 -- ---- of a save
 save-left : (s : Schedule) (buffer : List ℕ) (n : ℕ) → save s buffer .answer ≡ refused n → InTable n × (save s buffer .buffer ≡ buffer)
@@ -50,7 +51,7 @@ call-left s (Admit x lo hi f c) lent n e = outcome-left s lent (Leaves.admits x 
 call-left s (Drop x) lent n e = outcome-left s lent (Leaves.drops x) n e
 call-left s (Report x sample) lent n e = outcome-left s lent (Leaves.reports x sample) n e
 call-left s (Reports reports) lent n e = listed-left s lent (reportAll s reports (lent .list)) (refusal-listed s reports (lent .list) n e)
-call-left s (Owner b) lent n e = (owner-tabled (least handles (λ x. owns (connection s x) b)) n e, refl, refl)
+call-left s (Owner b) lent n e = absurd (owner-answers (least handles (λ x. owns (connection s x) b)) n e)
 call-left s (Anchor x b) lent n e =
     (tabled (anchorChecks s x) (slots (slotsToAnchor (connection s x) b)) (λ m q. let z : _≡_ {A = ℕ} 0 1 = cc in absurd (omega arith)) n e, refl, refl)
 call-left s Save lent n e = let w = save-left s (lent .buffer) n e in (w .0, refl, ap (λ (b : List ℕ). record { buffer = b; list = lent .list }) (w .1))

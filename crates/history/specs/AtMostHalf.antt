@@ -5,11 +5,13 @@ use mathlib.Core.Bool.{true}
 use mathlib.Core.Logic.{_≢_}
 use lib.ListN.{length}
 use Rattle.rules.specs.declared.Schedule.{Schedule}
+use Rattle.rules.specs.declared.Refusal.the-variants.{CeilingAboveHalf}
 use Rattle.rules.specs.Ownership.{handles, factor}
 use Rattle.rules.specs.Sound.{sound}
 use Rattle.rules.specs.Handles.{connection, isLive}
 use Rattle.rules.specs.Image.{IsImage}
-use Rattle.rules.specs.Answers.{ok}
+use Rattle.rules.specs.Refusals.{number}
+use Rattle.rules.specs.Answers.{refused, ok}
 use Rattle.history.specs.Calls.{Bytes}
 use Rattle.history.specs.Runs.{Made, Run, begun, more, now, System}
 use Rattle.history.specs.Moments.{AdmissionOf, Restores, Begins, admitted, restored, Alive}
@@ -22,6 +24,12 @@ AdmittedWithin S =
     (run : Run) (m : Made) (x smallest largest floor ceiling F A L : ℕ) → S (more run m)
     → AdmissionOf (m .request .call) x smallest largest floor ceiling → m .result .answer ≡ ok F A L
     → (2 * ceiling ≤ F) × (F ≢ 1) × (factor (connection (now (more run m)) x) ≡ F)
+
+-- No other call is refused so.
+abbrev pub AdmissionsAlone : System → Type 0
+AdmissionsAlone S =
+    (run : Run) (m : Made) → S (more run m) → m .result .answer ≡ refused (number CeilingAboveHalf)
+    → (x : ℕ) × (smallest : ℕ) × (largest : ℕ) × (floor : ℕ) × (ceiling : ℕ) × AdmissionOf (m .request .call) x smallest largest floor ceiling
 
 -- At most half: twice its length is at most its factor F, and of any F successive blocks, begun anywhere in endless time, at most F / 2 belong to it.
 pub record HasHalf (s : Schedule) (x : ℕ) : Type 0 where
@@ -56,5 +64,6 @@ NoneTakesHouse S = (run : Run) (x : ℕ) → S run → RestoredWithin run → is
 -- What the request promises, beside the demands.
 pub record AtMostHalf (S : System) : Type 0 where
   pub admits : AdmittedWithin S
+  pub alone : AdmissionsAlone S
   pub lasts : LastsWithin S
   pub house : NoneTakesHouse S
