@@ -16,7 +16,7 @@ HERE = os.path.dirname(os.path.abspath(__file__))
 TABLE = dict(row.rstrip("\n").split("\t") for row in open(f"{HERE}/names.tsv", encoding="utf8"))
 WORD = r"[^\s(){}.;,@\"«»\[\]`]+"
 ANTT = re.compile(rf'(?P<string>"(?:[^"\\\n]|\\.)*")|(?P<comment>(?<![^\s(){{}}.;,@"«»])--[^\n]*)|(?P<word>{WORD})')
-RUST = re.compile(rf'(?P<string>b?"(?:[^"\\]|\\.)*"|\'(?:[^\'\\\n]|\\[^\n]+?)\')|(?P<comment>//[^\n]*)|(?P<word>{WORD})')
+RUST = re.compile(rf'(?P<string>b?"(?:[^"\\]|\\[\s\S])*"|\'(?:[^\'\\\n]|\\[^\n]+?)\')|(?P<comment>//[^\n]*)|(?P<word>{WORD})')
 SPAN = re.compile(r"`[^`\n]*`")
 CAPITAL = re.compile(r"(?<![\w'.-])[a-z][a-z0-9']*[A-Z][\w']*(?![\w-])")
 

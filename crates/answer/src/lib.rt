@@ -1,4 +1,6 @@
 //! The words of an answer, written at a place, and its line.
+#![tactic(auto)]
+
 ghost use Rattle.std.specs.Prelude.{◌+◌, ◌≤◌, length, ◌≡◌};
 ghost use Rattle.rules.specs.Answers.{ok, message as message_as, of_admission, of_dropping, of_reporting, of_reporting_all, of_ownership, of_distance, of_saving, of_loading, of_tidying, of_reading, of_writing, of_reply};
 ghost use Rattle.rules.specs.Messages.{subrate_values, change_values};

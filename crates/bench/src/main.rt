@@ -1,4 +1,6 @@
 //! Performs a script as the probe does, each call of the library between two marks: what bench/run counts.
+#![tactic(auto)]
+
 ghost use Rattle.std.specs.Prelude.{◌≡◌, true, ◌+◌, ◌*◌, ◌≤◌, length, take};
 ghost use Rattle.rules.specs.Bytes.{same};
 ghost use Rattle.rules.specs.Text.{text as text_of};

@@ -1,1 +1,2 @@
 //! Laws of blocks in endless time, of classes, of nodes and trees, and of sound schedules: no code.
+#![tactic(auto)]

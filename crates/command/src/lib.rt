@@ -1,4 +1,5 @@
 //! The command program, from the bytes of its input to those of its output.
+#![tactic(auto)]
 
 mod obeying;
 mod running;

@@ -1,4 +1,5 @@
 //! The door for C: an export for each public call, with the answer in numbers. `c/beak.h` is the C side of it.
+#![tactic(auto)]
 
 mod asking;
 mod changing;

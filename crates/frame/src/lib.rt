@@ -1,4 +1,6 @@
 //! Check 9 of a load: the bytes are an image's records one after the other.
+#![tactic(auto)]
+
 ghost use Rattle.std.specs.Prelude.{◌≤◌, length};
 ghost use Rattle.frame.specs.Promises.{Heads, PassesOne, PassesAll, of_frame, Frames};
 

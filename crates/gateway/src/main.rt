@@ -1,4 +1,6 @@
 //! The command program: reads standard input and prints what the library makes of it.
+#![tactic(auto)]
+
 use input::{Input, read_all};
 use libc::{STDERR_FILENO, STDOUT_FILENO};
 use rules::MOST_INPUT;

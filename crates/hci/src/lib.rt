@@ -1,4 +1,5 @@
 //! The subrate messages of HCI, read from bytes and written into a lent buffer. No schedule is needed.
+#![tactic(auto)]
 
 mod reading;
 mod ruling;

@@ -1,4 +1,6 @@
 //! Bytes in lower-case hexadecimal, written and read.
+#![tactic(auto)]
+
 ghost use Rattle.std.specs.Prelude.{◌≡◌, ◌+◌, ◌*◌, ◌<◌, ◌≤◌, length, drop};
 ghost use Rattle.text.specs.Promises.{Puts};
 ghost use Rattle.hexadecimal.specs.Hex.{hex_digit, hex};

@@ -1,4 +1,5 @@
 //! The image: a schedule as bytes, and bytes as a schedule.
+#![tactic(auto)]
 
 mod loading;
 mod saving;

@@ -1,1 +1,2 @@
 //! Laws of records, images, save and load: no code.
+#![tactic(auto)]

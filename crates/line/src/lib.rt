@@ -1,4 +1,6 @@
 //! A line of text: the command that it says.
+#![tactic(auto)]
+
 ghost use Rattle.std.specs.Prelude.{◌≡◌};
 ghost use Rattle.rules.specs.Commands.{is_form, named as named_rule, says as says_rule};
 

@@ -1,4 +1,5 @@
 //! The probe's lines that lend a list of numbers.
+#![tactic(auto)]
 
 mod lending;
 mod reporting;

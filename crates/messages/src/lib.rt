@@ -1,1 +1,2 @@
 //! The laws of the subrate messages: no code.
+#![tactic(auto)]

@@ -1,4 +1,6 @@
 //! The rule that moves a meter, on numbers.
+#![tactic(auto)]
+
 ghost use Rattle.std.specs.Prelude.{◌≡◌, ◌≤◌, max};
 ghost use Rattle.meter.specs.Moved.{list_micros, moved_meter};
 ghost use Rattle.rules.specs.Meter.{moved as moved_rule, need as need_rule, target as target_rule};

@@ -1,4 +1,6 @@
 //! What a line of a script asks for; and the type of what performing it leaves.
+#![tactic(auto)]
+
 ghost use Rattle.std.specs.Prelude.{◌≡◌, true, ◌*◌, ◌≤◌, length, take};
 ghost use Rattle.rules.specs.Bytes.{same};
 ghost use Rattle.rules.specs.Text.{text as text_of};

@@ -1,4 +1,6 @@
 //! Where an admission goes: checks 2, 4, 15, 5, 20, 6, and the search for the first open anchor.
+#![tactic(auto)]
+
 ghost use Rattle.std.specs.Prelude.{◌≡◌, ◌<◌, ◌≤◌, ◌^◌, length};
 ghost use Rattle.rules.specs.Ownership.{largest_k};
 ghost use Rattle.place.specs.Steps.{of_interval, of_smallest, of_range, of_share, of_half, interval_step, smallest_step, range_step, share_step, half_step};

@@ -1,4 +1,6 @@
 //! The probe: performs a script line by line, for tests and for the people who keep the fleet running.
+#![tactic(auto)]
+
 ghost use Rattle.std.specs.Prelude.{◌≤◌, length};
 ghost use Rattle.rules.specs.Good.{Good};
 ghost use Rattle.script.specs.Performing.{most_printed};

@@ -1,4 +1,6 @@
 //! The questions: whose block it is, and how far an anchor is. They change nothing.
+#![tactic(auto)]
+
 ghost use Rattle.std.specs.Prelude.{◌≡◌, true};
 ghost use Rattle.rules.specs.Good.{Good};
 ghost use Rattle.rules.specs.Ownership.{owns as owns_block};

@@ -1,4 +1,5 @@
 //! Reports of a whole cycle at once: a lent list of reports, and a lent list that receives one answer for each.
+#![tactic(auto)]
 
 mod coding;
 mod listing;

@@ -1,4 +1,6 @@
 //! The connections of an image: checks 10, 18 and 11 of a load.
+#![tactic(auto)]
+
 ghost use Rattle.std.specs.Prelude.{◌≡◌, true, ◌+◌, ◌<◌, ◌≤◌, ◌^◌, length, take, drop};
 ghost use Rattle.rules.specs.Ownership.{largest_k};
 ghost use Rattle.rules.specs.Sound.{numbers_within};

@@ -1,4 +1,5 @@
 //! The numbers and the types of the base. What they mean stands in specs/, one notion to a file.
+#![tactic(auto)]
 
 // ---- the sheet's numbers, each with the name of its definition
 

@@ -1,4 +1,6 @@
 //! The run of a connection, the classes of (A + j) mod F, in the tree; and the schedule that has none.
+#![tactic(auto)]
+
 ghost use Rattle.std.specs.Prelude.{◌≡◌, ◌+◌, ◌<◌, ◌≤◌, ◌^◌};
 ghost use Rattle.rules.specs.Classes.{depth};
 ghost use Rattle.rules.specs.Ownership.{nobody as no_connection};

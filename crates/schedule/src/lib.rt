@@ -1,4 +1,5 @@
 //! The calls that change a schedule. A schedule is a value: it goes in, and what the call leaves comes back.
+#![tactic(auto)]
 
 mod admission;
 mod dropping;

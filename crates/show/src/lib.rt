@@ -1,4 +1,5 @@
 //! What the test programs print with.
+#![tactic(auto)]
 
 use libc::STDOUT_FILENO;
 use rules::{LIST_BLOCKS, TREE_BYTES};

@@ -1,4 +1,6 @@
 //! The lines of a schedule's state.
+#![tactic(auto)]
+
 ghost use Rattle.std.specs.Prelude.{◌≡◌, ◌+◌, ◌*◌, ◌≤◌, [], ◌∷◌, ◌++◌, length};
 ghost use Rattle.rules.specs.Decimal.{decimal};
 ghost use Rattle.rules.specs.Words.{spaced};

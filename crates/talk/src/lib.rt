@@ -1,4 +1,5 @@
 //! The probe's lines that read and write a message.
+#![tactic(auto)]
 
 mod asking;
 mod telling;

@@ -1,4 +1,5 @@
 //! A text: places, words and decimal numbers in it, read and written.
+#![tactic(auto)]
 
 mod reading;
 mod writing;

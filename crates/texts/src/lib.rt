@@ -1,1 +1,2 @@
 //! Laws of decimal numbers, of lines and of commands: no code.
+#![tactic(auto)]

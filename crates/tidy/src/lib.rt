@@ -1,4 +1,5 @@
 //! Tidy: the live connections placed anew, one after the other, each where an admission would go, with its present length for the floor. Checks 19, 14.
+#![tactic(auto)]
 
 mod arranging;
 mod moving;

@@ -1,4 +1,6 @@
 //! The tree of taken blocks: a bit for each node.
+#![tactic(auto)]
+
 ghost use Rattle.std.specs.Prelude.{◌≡◌, ◌+◌, ◌*◌, ◌<◌, ◌≤◌, ◌^◌};
 ghost use Rattle.rules.specs.Time.{list_blocks};
 ghost use Rattle.rules.specs.Classes.{depth};

@@ -1,4 +1,6 @@
 //! Runs the rule sheet's values of the tree that are not marked P, and the mirror beside a walk, and prints what it finds.
+#![tactic(auto)]
+
 ghost use Rattle.std.specs.Prelude.{◌<◌, ◌≤◌, ◌^◌};
 ghost use Rattle.rules.specs.Time.{list_blocks};
 ghost use Rattle.rules.specs.Classes.{depth};
@@ -72,7 +74,7 @@ fn agrees(k: u32, p: u32, twice: bool) -> bool
 // How many numbers of k bits do so.
 fn agreeing(k: u32, twice: bool) -> u64
     requires { k ≤ depth }
-    ensures { result ≤ listBlocks }
+    ensures { result ≤ list_blocks }
 {
     let mut count: u64 = 0;
     for p in 0..1u32 << k {
