@@ -1,4 +1,3 @@
--- `text::put_decimal` meets its contract. The measure is the number: a tenth of it is put first.
 use borrow.Author.Rules.{rules}
 use Prim.Native.Nat.{ℕ, ◌/◌, ◌<◌}
 use native.Mathlib.Omega.{arith}
@@ -7,10 +6,9 @@ use borrow.Fn.PlainCycle.{Measures, is, falls, and}
 use Rattle.text.proofs.Putting.{digits_one, digits_more, puts_one, puts_more, puts_length}
 use Rattle.text.proofs.writing.put_decimal.Reads as put_decimal
 use Rattle.text.proofs.writing.put_decimal.Kinds as put_decimal_kinds
-use Rattle.text.proofs.writing.+put_decimal.Lts-put_decimal as put_decimal_lts
-use Rattle.text.proofs.writing.+put_decimal.{statement}
-use Rattle.text.proofs.writing.+put_decimal.Tie.{close}
+use Rattle.text.proofs.writing.+put_decimal.Goals as goal
 
+-- `text::put_decimal` meets its contract. The measure is the number: a tenth of it is put first.
 abbrev μ-put-decimal : Measures 1 put_decimal_kinds.ps ℕ
 μ-put-decimal κs a = a.1.1.0
 
@@ -83,10 +81,3 @@ module _ (t : ℕ) where
       let s = c.before.before.before.before.before.before in
       puts_more s.args.out.now c.before.before.put_decimal.new.0 s.args.at s.args.n c.before.before.put_decimal.result
       c.before.before.before.before.if1.false c.before.before.put_decimal.ensures
-
-pub +put-decimal-spec : {M : Type 1} → statement M
-+put-decimal-spec =
-    close μ-put-decimal λ t.
-    put_decimal_lts.spec (callees t) (at t) put_decimal.Post
-    (cast-out t) (add-out t) (slice-write-out t) (add-result t) (same_length t) (returns t)
-    (put-decimal-requires t) (cast-out-2 t) (add-out-2 t) (slice-write-out-2 t) (add-result-2 t) (same-length-2 t) (returns-2 t)

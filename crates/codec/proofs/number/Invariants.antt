@@ -1,0 +1,9 @@
+use Rattle.std.proofs.Common.{◌≡◌, ◌+◌, ◌≤◌, length, take, drop, ℕ, ◌-◌, ◌*◌, ◌<◌, ◌^◌}
+use Rattle.rules.specs.Bytes.{little, little_number}
+use Rattle.codec.proofs.number.Given as goal
+
+abbrev pub invariant-loop-i : goal.invariant-loop-i
+invariant-loop-i l = (l.i ≤ l.width) × (l.n < 256 ^ (l.width - l.i)) × (l.n ≡ little_number (take (l.width - l.i) (drop (l.at + l.i) l.bytes)))
+
+abbrev pub decreases-loop-i : goal.decreases-loop-i
+decreases-loop-i l = l.i
