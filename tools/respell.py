@@ -41,6 +41,12 @@ def code(pattern, text, kept=()):
     return pattern.sub(turn, text)
 
 
+def lent(text):
+    """The names that a file takes from a library: its own lemma of that name is another."""
+    libraries = r"(?m)^use (?:mathlib|lib|native|Prim|borrow|Rattle\.std)[\w.ᴰ]*\.\{(.*)\}"
+    return {name.strip() for names in re.findall(libraries, text) for name in names.split(",")}
+
+
 def answered(text):
     return set(re.findall(rf"(?m)^(?:abbrev |pub )*({WORD}) :", text))
 
@@ -56,7 +62,7 @@ def turned(path, text):
     text = crate(text)
     if path.endswith(".antt"):
         of_function = os.path.basename(os.path.dirname(path)) not in ("specs", "proofs")
-        return code(ANTT, text, answered(text) if of_function else ())
+        return code(ANTT, text, lent(text) | (answered(text) if of_function else set()))
     if path.endswith(".rt"):
         return code(RUST, text)
     if path.endswith(".edit"):

@@ -1,6 +1,6 @@
 -- Shifts, masks, and one bit written into a list of bytes.
 use mathlib.Core.Path.{◌≡◌, refl, sym, ap, ◌∙◌}
-use mathlib.Core.Bool.{Bool, true, false, ◌||◌, ◌&&◌, not, cond, beq, or-true, or-false, and_true, and-false, false≢true}
+use mathlib.Core.Bool.{Bool, true, false, ◌||◌, ◌&&◌, not, cond, beq, or-true, or-false, and-true, and-false, false≢true}
 use mathlib.Core.List.{List}
 use mathlib.Core.Logic.{by_cases}
 use Prim.Native.Nat.{ℕ, zero, suc, ◌+◌, ◌-◌, ◌*◌, ◌/◌, ◌%◌, ◌^◌, ◌<◌, ◌≤◌}
@@ -96,7 +96,7 @@ or_cond false b = or-false b
 
 and_cond : (e b : Bool) → b && not e ≡ cond e false b
 and_cond true b = and-false b
-and_cond false b = and_true b
+and_cond false b = and-true b
 
 cond_again : (e b : Bool) → cond e true (cond e false b) ≡ cond e true b
 cond_again true b = refl

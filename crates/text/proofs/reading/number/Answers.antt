@@ -1,12 +1,13 @@
+use mathlib.Core.List.{[]}
 use mathlib.Core.Path.{◌≡◌, refl, sym, ap, ◌∙◌}
-use mathlib.Core.Logic.{⊎_elim}
-use Prim.Native.Nat.{ℕ, ◌+◌, ◌-◌, ◌*◌}
+use Prim.Native.Nat.{ℕ, ◌+◌, ◌*◌}
 use native.Mathlib.Omega.{arith}
 use lib.ListN.{get_or}
 use Rattle.rules.specs.Decimal.{value}
 use Rattle.texts.proofs.DecimalLaws.{Digit, number_empty, number_leading, number_not_digit, number_large}
 use Rattle.text.proofs.Digits.{nothing, value_turn, digits_turn, value_all}
 use Rattle.text.proofs.reading.number.Goals as goal
+use Rattle.text.proofs.reading.number.Goals.{then-n-gt1+else-digits-eq48, else-n-gt1}
 
 pub returns-then-n-eq0 : goal.returns-then-n-eq0
 returns-then-n-eq0 c =
@@ -58,4 +59,4 @@ returns c =
     let l = c.loop-i in
     let a = c.args in
     value_all a.digits.now l.i l.value (omega arith) (omega arith)
-    (λ h. ⊎_elim (λ w. w.2.left) (λ w. absurd (omega (arith, w.left))) c.if-n-gt1.branch) l.invariant.3 l.invariant.2 l.invariant.1
+    (λ h. elim c.if-n-gt1.branch [ then-n-gt1+else-digits-eq48 w ↦ w.if-digits-eq48.false | else-n-gt1 w ↦ absurd (omega arith) ]) l.invariant.3 l.invariant.2 l.invariant.1

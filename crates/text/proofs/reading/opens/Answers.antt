@@ -1,6 +1,5 @@
 use borrow.Author.Rules.{rules}
 use mathlib.Core.Path.{refl, sym, ◌∙◌}
-use Prim.Native.Nat.{◌-◌}
 use native.Mathlib.Omega.{arith}
 use Rattle.text.proofs.Opening.{opens_short, opens_turn, opens_differs, opens_end}
 use Rattle.text.proofs.reading.opens.Goals as goal

@@ -1,5 +1,5 @@
 use mathlib.Core.Path.{sym, ap, ◌∙◌}
-use Prim.Native.Nat.{◌+◌, ◌-◌}
+use Prim.Native.Nat.{◌+◌}
 use native.Mathlib.Omega.{arith}
 use Rattle.texts.specs.Row.{of_number}
 use Rattle.text.proofs.Rows.{found_within, so_far_none, so_far_all, so_far_wrong, so_far_full, so_far_no_number, so_far_more}
@@ -54,9 +54,8 @@ loop-next-preserved c =
     let l = c.loop-next in
     let a = c.args in
     let f = c.find-end in
-    let r = c.read-1.given in
     so_far_more a.line.now a.at a.numbers.now l.numbers l.next l.count l.invariant c.loop-next-test.true f.result f.ensures
-    r.0.0 c.if-line-next-ne32.false (omega (arith, l.invariant.within, c.if-count-numbers.false)) (sym (ap of_number r.1) ∙ c.number-read.ensures)
+    c.in-Is.n c.if-line-next-ne32.false (omega (arith, l.invariant.within, c.if-count-numbers.false)) (sym (ap of_number c.in-Is.is) ∙ c.number-read.ensures)
 
 pub returns : goal.returns
 returns c =
