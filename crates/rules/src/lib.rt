@@ -91,7 +91,7 @@ pub const MOST_OUTPUT: usize = 4 * MOST_INPUT;
 /// A connection's share of the radio; its handle is its place in the schedule. Sixteen bytes, none of them between two fields:
 /// so a schedule is copied as a whole.
 #[repr(C)]
-#[derive(Drop)]
+#[derive(Clone, Copy)]
 pub struct Connection {
     pub live: bool,
     pub k: u8,
@@ -104,21 +104,21 @@ pub struct Connection {
 
 /// The tree of taken blocks: node n is bit n mod 8 of byte n div 8.
 #[repr(C)]
-#[derive(Drop)]
+#[derive(Clone, Copy)]
 pub struct Tree {
     pub bytes: [u8; TREE_BYTES],
 }
 
 /// One gateway's schedule: the connection of each handle, and the tree of the blocks that they take.
 #[repr(C)]
-#[derive(Drop)]
+#[derive(Clone, Copy)]
 pub struct Schedule {
     pub connections: [Connection; HANDLES],
     pub tree: Tree,
 }
 
 /// The meter of one connection: its estimate in µs with its length in blocks.
-#[derive(Drop)]
+#[derive(Clone, Copy)]
 pub struct Meter {
     pub estimate: u32,
     pub length: u16,
@@ -126,7 +126,7 @@ pub struct Meter {
 
 /// A report of a list: a handle, and the µs that its connection used in its last run. Eight bytes.
 #[repr(C)]
-#[derive(Drop)]
+#[derive(Clone, Copy)]
 pub struct Report {
     pub handle: u32,
     pub sample: u32,
@@ -136,7 +136,7 @@ pub struct Report {
 
 /// The values of a subrate command.
 #[repr(C)]
-#[derive(Drop)]
+#[derive(Clone, Copy)]
 pub struct Subrates {
     pub min: u16,
     pub max: u16,
@@ -147,7 +147,7 @@ pub struct Subrates {
 
 /// The values of the event that a connection's subrating has changed, or has not.
 #[repr(C)]
-#[derive(Drop)]
+#[derive(Clone, Copy)]
 pub struct SubrateChange {
     pub status: u8,
     pub handle: u16,
@@ -158,7 +158,7 @@ pub struct SubrateChange {
 }
 
 /// The default-subrate command, the subrate request command with its handle, or the subrate change event.
-#[derive(Drop)]
+#[derive(Clone, Copy)]
 pub enum Message {
     Default(Subrates),
     Request(u16, Subrates),
@@ -168,7 +168,7 @@ pub enum Message {
 // ---- the answers
 
 /// Why a call is refused: a case for each row of the refusal table.
-#[derive(Drop)]
+#[derive(Clone, Copy)]
 pub enum Refusal {
     HandleAbove63,
     HandleLive,
@@ -193,56 +193,56 @@ pub enum Refusal {
 }
 
 /// What a largest interval gives: the largest k of a connection with 6 × 2^k not above it, or nothing.
-#[derive(Drop)]
+#[derive(Clone, Copy)]
 pub enum Interval {
     Gives(u8),
     Outside,
 }
 
 /// Whether a smallest interval is from the least that there is to the largest.
-#[derive(Drop)]
+#[derive(Clone, Copy)]
 pub enum Smallest {
     Within,
     Outside,
 }
 
 /// Whether the interval that k gives is not below the smallest.
-#[derive(Drop)]
+#[derive(Clone, Copy)]
 pub enum Range {
     Holds,
     Misses,
 }
 
 /// Whether a floor and a ceiling are a share of a factor.
-#[derive(Drop)]
+#[derive(Clone, Copy)]
 pub enum Share {
     Fits,
     Wrong,
 }
 
 /// Whether a ceiling is at most half of a factor.
-#[derive(Drop)]
+#[derive(Clone, Copy)]
 pub enum Half {
     Within,
     Above,
 }
 
 /// The first open anchor in node order, or none.
-#[derive(Drop)]
+#[derive(Clone, Copy)]
 pub enum Place {
     At(u16),
     Nowhere,
 }
 
 /// Where an admission goes, k and the anchor, or why it is refused.
-#[derive(Drop)]
+#[derive(Clone, Copy)]
 pub enum Plan {
     At(u8, u16),
     Refused(Refusal),
 }
 
 /// Whether the records of an image's connections are sound, are so but for a k that no connection may have, or are not.
-#[derive(Drop)]
+#[derive(Clone, Copy)]
 pub enum Soundness {
     Sound,
     Illegal,
@@ -250,13 +250,13 @@ pub enum Soundness {
 }
 
 /// How many connections an image counts; or its records are wrong.
-#[derive(Drop)]
+#[derive(Clone, Copy)]
 pub enum Frame {
     Counts(u8),
     Wrong,
 }
 
-#[derive(Drop)]
+#[derive(Clone, Copy)]
 pub enum Admission {
     Placed {
         factor: u16,
@@ -266,14 +266,14 @@ pub enum Admission {
     Refused(Refusal),
 }
 
-#[derive(Drop)]
+#[derive(Clone, Copy)]
 pub enum Dropping {
     Done,
     Refused(Refusal),
 }
 
 /// A report's answer, with the length that it leaves.
-#[derive(Drop)]
+#[derive(Clone, Copy)]
 pub enum Reporting {
     Kept(u16),
     Grown(u16),
@@ -283,59 +283,59 @@ pub enum Reporting {
 }
 
 /// How many reports of a list were made.
-#[derive(Drop)]
+#[derive(Clone, Copy)]
 pub enum ReportingAll {
     Answered(u8),
     Refused(Refusal),
 }
 
-#[derive(Drop)]
+#[derive(Clone, Copy)]
 pub enum Ownership {
     Handle(u8),
     Idle,
 }
 
-#[derive(Drop)]
+#[derive(Clone, Copy)]
 pub enum Distance {
     Slots(u32),
     Refused(Refusal),
 }
 
-#[derive(Drop)]
+#[derive(Clone, Copy)]
 pub enum Saving {
     Size(usize),
     Refused(Refusal),
 }
 
-#[derive(Drop)]
+#[derive(Clone, Copy)]
 pub enum Loading {
     Count(u8),
     Refused(Refusal),
 }
 
 /// How many anchors differ.
-#[derive(Drop)]
+#[derive(Clone, Copy)]
 pub enum Tidying {
     Count(u8),
     Refused(Refusal),
 }
 
 /// The message that bytes are.
-#[derive(Drop)]
+#[derive(Clone, Copy)]
 pub enum Reading {
     Is(Message),
     Refused(Refusal),
 }
 
 /// The size of a message that was written.
-#[derive(Drop)]
+#[derive(Clone, Copy)]
 pub enum Writing {
     Size(usize),
     Refused(Refusal),
 }
 
 /// The answer of any call that a command makes.
-#[derive(Drop)]
+#[derive(Clone, Copy)]
 pub enum Reply {
     Admission(Admission),
     Dropping(Dropping),
@@ -347,7 +347,7 @@ pub enum Reply {
 // ---- the command text
 
 /// A command: a call that a line can make, with its numbers.
-#[derive(Drop)]
+#[derive(Clone, Copy)]
 pub enum Command {
     Admit {
         handle: u32,
@@ -375,14 +375,14 @@ pub enum Command {
 }
 
 /// What a line says.
-#[derive(Drop)]
+#[derive(Clone, Copy)]
 pub enum Line {
     Says(Command),
     Bad,
 }
 
 /// The number that digits say.
-#[derive(Drop)]
+#[derive(Clone, Copy)]
 pub enum Number {
     Is(u32),
     Wrong,
@@ -390,58 +390,58 @@ pub enum Number {
 
 // ---- an answer beside the schedule that it leaves
 
-#[derive(Drop)]
+#[derive(Clone, Copy)]
 pub struct Admitted {
     pub answer: Admission,
     pub schedule: Schedule,
 }
 
-#[derive(Drop)]
+#[derive(Clone, Copy)]
 pub struct Dropped {
     pub answer: Dropping,
     pub schedule: Schedule,
 }
 
-#[derive(Drop)]
+#[derive(Clone, Copy)]
 pub struct Reported {
     pub answer: Reporting,
     pub schedule: Schedule,
 }
 
-#[derive(Drop)]
+#[derive(Clone, Copy)]
 pub struct ReportedAll {
     pub answer: ReportingAll,
     pub schedule: Schedule,
 }
 
 /// The schedule of an image's connections, if no block belongs to two of them, and where the record after them begins.
-#[derive(Drop)]
+#[derive(Clone, Copy)]
 pub struct Restored {
     pub apart: bool,
     pub schedule: Schedule,
     pub end: usize,
 }
 
-#[derive(Drop)]
+#[derive(Clone, Copy)]
 pub struct Loaded {
     pub answer: Loading,
     pub schedule: Schedule,
 }
 
 /// Whether every connection found an anchor, and the schedule of those that did.
-#[derive(Drop)]
+#[derive(Clone, Copy)]
 pub struct Arranged {
     pub all: bool,
     pub schedule: Schedule,
 }
 
-#[derive(Drop)]
+#[derive(Clone, Copy)]
 pub struct Tidied {
     pub answer: Tidying,
     pub schedule: Schedule,
 }
 
-#[derive(Drop)]
+#[derive(Clone, Copy)]
 pub struct Obeyed {
     pub reply: Reply,
     pub schedule: Schedule,
