@@ -1,0 +1,85 @@
+use borrow.Author.Rules.{rules}
+use mathlib.Core.Path.{◌≡◌, refl, sym, ap, ◌∙◌}
+use mathlib.Core.Bool.{Bool, false, not}
+use mathlib.Core.Logic.{by_cases}
+use Prim.Native.Nat.{ℕ, ◌+◌, ◌-◌, ◌%◌, ◌<◌, ◌^◌}
+use native.Mathlib.Decide.{ℕ_discrete}
+use native.Mathlib.Omega.{arith}
+use Rattle.rules.specs.Classes.{class_taken, free}
+use Rattle.rules.specs.TreeBytes.{tree_of, bit_at}
+use Rattle.rules.specs.Steps.{gives}
+use Rattle.basics.proofs.BoolLaws.{not_true_is_false, not_false_is_true}
+use Rattle.blocks.proofs.ClassLaws.{within_depth}
+use Rattle.place.proofs.SearchLaws.{shut_by, clear_next, own_shut, own_clear, found_at, found_none}
+use Rattle.place.proofs.first_by_blocks.Goals as goal
+use Rattle.place.proofs.first_by_blocks.Goals.{After-is_free, After-is_set, In-nodes}
+
+pub nodes-init : goal.nodes-init
+nodes-init c = (search rules, λ t m q l. absurd (omega arith))
+
+-- node p is one of the depth, and its bit is that of the anchor's class
+node-below : (c : In-nodes) → c.nodes.p < 2 ^ c.args.k
+node-below c = omega (arith, c.factor-f.ensures.is)
+
+own-bit : (c : After-is_set) → bit_at c.args.tree.now (2 ^ c.args.k + c.nodes.p) ≡ c.is_set.result
+own-bit c =
+    ap (λ (x : ℕ). bit_at c.args.tree.now (x + c.nodes.p)) (sym c.factor-f.ensures.is) ∙ sym c.is_set.ensures
+
+pub nodes-preserved-then-is_set : goal.nodes-preserved-then-is_set
+nodes-preserved-then-is_set c =
+    (
+      omega arith,
+      λ t m q h.
+          by_cases (ℕ_discrete q c.nodes.p)
+          (λ s. rw s (own_shut t c.args.k c.nodes.p c.args.tree.now (within_depth c.requires.0) (node-below (goal.at.nodes-preserved-then-is_set c).In-nodes) m c.args.floor c.requires.1 (own-bit (goal.at.nodes-preserved-then-is_set c).After-is_set ∙ c.if-is_set.true)))
+          (λ s. c.nodes.invariant.1 t m q (omega arith)),
+    )
+
+pub loop-j-init : goal.loop-j-init
+loop-j-init c =
+    (
+      refl,
+      omega (arith, c.requires.1),
+      omega (arith, c.requires.1),
+      λ t m. rw c.mirror-a.ensures.is (own_clear t c.args.k c.nodes.p c.args.tree.now (within_depth c.requires.0) (node-below (goal.at.loop-j-init c).In-nodes) m (own-bit (goal.at.loop-j-init c).After-is_set ∙ c.if-is_set.false)),
+    )
+
+-- what is said of block j of the run
+says : (c : After-is_free) (t : ℕ → Bool) → c.args.tree.now ≡ tree_of t
+    → c.is_free.result ≡ not (class_taken t c.args.k ((c.mirror-a.result + c.loop-j.j) % 2 ^ c.args.k))
+unfolding free
+says c t m =
+    let k = c.args.k in
+    c.is_free.ensures t m ∙ ap (λ (r : ℕ). not (class_taken t k r)) c.class_at.ensures.is
+
+pub nodes-preserved : goal.nodes-preserved
+nodes-preserved c =
+    (
+      omega arith,
+      λ t m q h.
+          by_cases (ℕ_discrete q c.nodes.p)
+          (λ s.
+          rw (s, ← c.mirror-a.ensures.is)
+          (shut_by t c.args.k c.args.floor c.mirror-a.result c.loop-j.j (omega arith) (not_false_is_true _ (sym (says (goal.at.nodes-preserved c).After-is_free t m) ∙ c.if-not-is_free.true))))
+          (λ s. c.nodes.invariant.1 t m q (omega arith)),
+    )
+
+pub loop-j-preserved : goal.loop-j-preserved
+loop-j-preserved c =
+    let l = c.loop-j in
+    (l.invariant.0, omega arith, omega arith, λ t m. clear_next t _ l.j _ (l.invariant.3 t m) (not_true_is_false _ (sym (says (goal.at.loop-j-preserved c).After-is_free t m) ∙ c.if-not-is_free.false)))
+
+pub returns-in-nodes : goal.returns-in-nodes
+returns-in-nodes c t m =
+    let l = c.loop-j in
+    let a = c.args in
+    let e = c.mirror-a.ensures.is in
+    let clear = rw e at (l.invariant.3 t m) in
+    ap gives e
+    ∙ found_at t a.k a.floor c.nodes.p (node-below (goal.at.returns-in-nodes c).In-nodes) (λ i h. clear i (omega arith)) (c.nodes.invariant.1 t m)
+
+pub returns : goal.returns
+returns c t m =
+    let a = c.args in
+    let n = c.nodes in
+    found_none t a.k a.floor (λ q h. n.invariant.1 t m q (omega (arith, c.factor-f.ensures.is)))
