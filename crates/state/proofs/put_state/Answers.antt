@@ -1,7 +1,6 @@
 use mathlib.Core.Path.{◌≡◌, refl}
-use mathlib.Core.Logic.{⊎_elim}
 use mathlib.Core.List.{flatten}
-use Prim.Native.Nat.{◌-◌, ◌<◌}
+use Prim.Native.Nat.{◌<◌}
 use native.Mathlib.Omega.{arith}
 use lib.ListN.{length, take}
 use lib.Seq.{take_all}
@@ -10,6 +9,7 @@ use Rattle.text.proofs.Putting.{puts_after, puts_length, puts_moved, puts_as}
 use Rattle.state.specs.State.{state_lines}
 use Rattle.state.proofs.StateLaws.{state_live, state_dead}
 use Rattle.state.proofs.put_state.Goals as goal
+use Rattle.state.proofs.put_state.Goals.{then-connections-h, else-connections-h}
 
 pub loop-h-init : goal.loop-h-init
 unfolding state_lines each_live flatten
@@ -21,19 +21,19 @@ put_connection-next-requires c = omega (arith, c.requires.1, c.loop-h.invariant.
 pub loop-h-preserved : goal.loop-h-preserved
 loop-h-preserved c =
     let l = c.loop-h in
-    let cs = c.args.t2 in
+    let cs = c.args.connections in
     let here : l.h < length cs = omega (arith, c.requires.0) in
-    ⊎_elim
-    (λ w.
-    let q = w.3.ensures in
-    (omega arith, puts_moved w.6 w.7 (puts_as (state_live cs l.h here w.0.taken) (puts_after l.invariant.1 q.puts)), omega (arith, w.7, q.room, l.invariant.2)))
-    (λ w.
-    (omega arith, puts_moved w.1 w.2 (puts_as (state_dead cs l.h here w.0.left) l.invariant.1), omega (arith, w.2, l.invariant.2)))
-    c.if-connections-h.branch-raw
+    elim c.if-connections-h.branch [
+      | then-connections-h w ↦
+          let q = w.put_connection-next.ensures in
+          (omega arith, puts_moved w.out-is w.next-is (puts_as (state_live cs l.h here w.if-connections-h.true) (puts_after l.invariant.1 q.puts)), omega (arith, w.next-is, q.room, l.invariant.2))
+      | else-connections-h w ↦
+          (omega arith, puts_moved w.out-is w.next-is (puts_as (state_dead cs l.h here w.if-connections-h.false) l.invariant.1), omega (arith, w.next-is, l.invariant.2))
+    ]
 
 pub returns : goal.returns
 returns c =
     let l = c.loop-h in
     let e : l.h ≡ 64 = omega arith in
-    let t : take l.h c.args.t2 ≡ c.args.t2 = take_all l.h c.args.t2 (omega (arith, c.requires.0)) in
+    let t : take l.h c.args.connections ≡ c.args.connections = take_all l.h c.args.connections (omega (arith, c.requires.0)) in
     record { puts = rw t at l.invariant.1; room = omega (arith, l.invariant.2) }
