@@ -3,18 +3,16 @@ use mathlib.Core.Path.{◌≡◌, refl, sym, ap, ap₂, subst, ◌∙◌}
 use mathlib.Core.Bool.{Bool, true, false, ◌&&◌, cond}
 use mathlib.Core.List.{List, [], ◌∷◌, append-nil}
 use Prim.Native.Nat.{ℕ}
-use lib.ListN.{take, drop}
 use Rattle.rules.specs.declared.Command.TheVariants.{Admit, AdmitRange, Drop, Report, Owner, Anchor}
 use Rattle.rules.specs.Bytes.{same}
-use Rattle.rules.specs.Text.{text}
 use Rattle.rules.specs.Decimal.{decimal, value}
 use Rattle.rules.specs.Words.{spaced}
-use Rattle.rules.specs.Commands.{line_of, guess}
+use Rattle.rules.specs.Commands.{line_of}
 use Rattle.basics.proofs.BoolLaws.{both, is_false}
 use Rattle.basics.proofs.BytesLaws.{same_exactly}
 use Rattle.texts.proofs.DecimalLaws.{value_decimal}
 use Rattle.texts.proofs.CommandLaws.{guess_line}
-use Rattle.hexadecimal.specs.Hex.{hex, unhex}
+use Rattle.hexadecimal.specs.Hex.{hex}
 use Rattle.order.specs.Orders.{Order, command, fresh, save, state, bad, save_into, load, order_line, allowed, of_line, ordered, asks}
 use Rattle.hexadecimal.proofs.HexLaws.{unhex_hex}
 
