@@ -14,7 +14,6 @@ use answer::{
 use hci::{read_message, write_message};
 use image::{load, save};
 use input::{Input, read_all};
-use libc::STDOUT_FILENO;
 use lists::{
     Asked, LONGEST_LINE, LONGEST_ROW, MOST_ENTRIES, MOST_MOVES, TidyAsked, asked_of, blank,
     tidy_asked,
@@ -36,58 +35,59 @@ use tidy::tidy;
 const AFTER_SINGLY: usize = 6;
 
 // Each write is a point at which the instructions are counted.
-fn mark() {
-    libc::write(STDOUT_FILENO, b"");
+fn mark(rt: &impl Print) {
+    let _ = rt.write_some(b"");
 }
 
-fn tell(reply: Reply) {
+fn tell(rt: &impl Print, reply: Reply) {
     let mut out = [0u8; LONGEST_ANSWER];
     let count = put_reply(&mut out, 0, reply);
-    word(&out[..count]);
+    word(rt, &out[..count]);
 }
 
-fn tell_saving(answer: Saving)
+fn tell_saving(rt: &impl Print, answer: Saving)
     requires { SizeFits answer }
 {
     let mut out = [0u8; LONGEST_ANSWER];
     let count = put_saving(&mut out, 0, answer);
-    word(&out[..count]);
-    end();
+    word(rt, &out[..count]);
+    end(rt);
 }
 
-fn tell_loading(answer: Loading) {
+fn tell_loading(rt: &impl Print, answer: Loading) {
     let mut out = [0u8; LONGEST_ANSWER];
     let count = put_loading(&mut out, 0, answer);
-    word(&out[..count]);
-    end();
+    word(rt, &out[..count]);
+    end(rt);
 }
 
 // The list behind an answer's words.
-fn tell_lent(out: &mut [u8], at: usize, list: &[u32])
+fn tell_lent(rt: &impl Print, out: &mut [u8], at: usize, list: &[u32])
     requires { at + longest_entry * length list.now ≤ length out.old }
 {
     let count = put_row(out, at, list);
-    word(&out[..count]);
-    end();
+    word(rt, &out[..count]);
+    end(rt);
 }
 
-fn tell_list(answer: ReportingAll, list: &[u32])
+fn tell_list(rt: &impl Print, answer: ReportingAll, list: &[u32])
     requires { length list.now ≤ most_entries }
 {
     let mut out = [0u8; LONGEST_LINE];
     let at = put_reporting_all(&mut out, 0, answer);
-    tell_lent(&mut out, at, list);
+    tell_lent(rt, &mut out, at, list);
 }
 
-fn tell_moves(answer: Tidying, list: &[u32])
+fn tell_moves(rt: &impl Print, answer: Tidying, list: &[u32])
     requires { length list.now ≤ most_moves }
 {
     let mut out = [0u8; LONGEST_LINE];
     let at = put_tidying(&mut out, 0, answer);
-    tell_lent(&mut out, at, list);
+    tell_lent(rt, &mut out, at, list);
 }
 
 fn admitted(
+    rt: &impl Print,
     s: Schedule,
     handle: u32,
     smallest: u32,
@@ -98,146 +98,146 @@ fn admitted(
     requires { Good s }
     ensures { Good result }
 {
-    mark();
+    mark(rt);
     let done = admit(s, handle, smallest, largest, floor, ceiling);
     let left = done.schedule;
-    mark();
+    mark(rt);
     let answer = done.answer;
-    tell(Reply::Admission(answer));
+    tell(rt, Reply::Admission(answer));
     left
 }
 
-fn dropped(s: Schedule, handle: u32) -> Schedule
+fn dropped(rt: &impl Print, s: Schedule, handle: u32) -> Schedule
     requires { Good s }
     ensures { Good result }
 {
-    mark();
+    mark(rt);
     let done = drop(s, handle);
     let left = done.schedule;
-    mark();
+    mark(rt);
     let answer = done.answer;
-    tell(Reply::Dropping(answer));
+    tell(rt, Reply::Dropping(answer));
     left
 }
 
-fn reported(s: Schedule, handle: u32, sample: u32) -> Schedule
+fn reported(rt: &impl Print, s: Schedule, handle: u32, sample: u32) -> Schedule
     requires { Good s }
     ensures { Good result }
 {
-    mark();
+    mark(rt);
     let done = report(s, handle, sample);
     let left = done.schedule;
-    mark();
+    mark(rt);
     let answer = done.answer;
-    tell(Reply::Reporting(answer));
+    tell(rt, Reply::Reporting(answer));
     left
 }
 
-fn listed(s: Schedule, numbers: &[u32], list: &mut [u32]) -> Schedule
+fn listed(rt: &impl Print, s: Schedule, numbers: &[u32], list: &mut [u32]) -> Schedule
     requires { Good s × (length list.old ≤ most_entries) }
     ensures { Good result }
 {
     blank(list);
-    mark();
+    mark(rt);
     let done = report_pairs(s, numbers, list);
     let left = done.schedule;
-    mark();
+    mark(rt);
     let answer = done.answer;
-    tell_list(answer, list);
+    tell_list(rt, answer, list);
     left
 }
 
-fn tidied(s: Schedule, list: &mut [u32]) -> Schedule
+fn tidied(rt: &impl Print, s: Schedule, list: &mut [u32]) -> Schedule
     requires { Good s × (length list.old ≤ most_moves) }
     ensures { Good result }
 {
     blank(list);
-    mark();
+    mark(rt);
     let done = tidy(s, list);
     let left = done.schedule;
-    mark();
+    mark(rt);
     let answer = done.answer;
-    tell_moves(answer, list);
+    tell_moves(rt, answer, list);
     left
 }
 
 // The reports that numbers say, made one by one, each schedule put back: what a list is held against.
-fn one_by_one(s: Schedule, numbers: &[u32]) -> Schedule
+fn one_by_one(rt: &impl Print, s: Schedule, numbers: &[u32]) -> Schedule
     requires { Good s }
     ensures { Good result }
 {
-    mark();
+    mark(rt);
     let mut left = s;
     for i in 0..numbers.len() / 2 {
         let done = report(left, numbers[2 * i], numbers[2 * i + 1]);
         left = done.schedule;
     }
-    mark();
-    word(b"singly\n");
+    mark(rt);
+    word(rt, b"singly\n");
     left
 }
 
-fn owned(s: Schedule, block: u32)
+fn owned(rt: &impl Print, s: Schedule, block: u32)
     requires { Good s }
 {
-    mark();
+    mark(rt);
     let answer = owner(s, block);
-    mark();
-    tell(Reply::Ownership(answer));
+    mark(rt);
+    tell(rt, Reply::Ownership(answer));
 }
 
-fn anchored(s: Schedule, handle: u32, block: u32)
+fn anchored(rt: &impl Print, s: Schedule, handle: u32, block: u32)
     requires { Good s }
 {
-    mark();
+    mark(rt);
     let answer = anchor(s, handle, block);
-    mark();
-    tell(Reply::Distance(answer));
+    mark(rt);
+    tell(rt, Reply::Distance(answer));
 }
 
-fn saved(s: Schedule, buffer: &mut [u8])
+fn saved(rt: &impl Print, s: Schedule, buffer: &mut [u8])
     requires { Good s }
 {
-    mark();
+    mark(rt);
     let answer = save(s, buffer);
-    mark();
-    tell_saving(answer);
+    mark(rt);
+    tell_saving(rt, answer);
 }
 
-fn loaded(s: Schedule, bytes: &[u8]) -> Schedule
+fn loaded(rt: &impl Print, s: Schedule, bytes: &[u8]) -> Schedule
     requires { Good s }
     ensures { Good result }
 {
-    mark();
+    mark(rt);
     let done = load(s, bytes);
     let left = done.schedule;
-    mark();
+    mark(rt);
     let answer = done.answer;
-    tell_loading(answer);
+    tell_loading(rt, answer);
     left
 }
 
-fn read(bytes: &[u8]) {
-    mark();
+fn read(rt: &impl Print, bytes: &[u8]) {
+    mark(rt);
     let answer = read_message(bytes);
-    mark();
+    mark(rt);
     let mut out = [0u8; LONGEST_MESSAGE];
     let count = put_reading(&mut out, 0, answer);
-    word(&out[..count]);
-    end();
+    word(rt, &out[..count]);
+    end(rt);
 }
 
-fn wrote(message: Message, buffer: &mut [u8]) {
-    mark();
+fn wrote(rt: &impl Print, message: Message, buffer: &mut [u8]) {
+    mark(rt);
     let answer = write_message(message, buffer);
-    mark();
+    mark(rt);
     let mut out = [0u8; LONGEST_ANSWER];
     let count = put_writing(&mut out, 0, answer);
-    word(&out[..count]);
-    end();
+    word(rt, &out[..count]);
+    end(rt);
 }
 
-fn obeyed(s: Schedule, command: Command) -> Schedule
+fn obeyed(rt: &impl Print, s: Schedule, command: Command) -> Schedule
     requires { Good s }
     ensures { Good result }
 {
@@ -247,61 +247,61 @@ fn obeyed(s: Schedule, command: Command) -> Schedule
             interval,
             floor,
             ceiling,
-        } => admitted(s, handle, LEAST_INTERVAL, interval, floor, ceiling),
+        } => admitted(rt, s, handle, LEAST_INTERVAL, interval, floor, ceiling),
         Command::AdmitRange {
             handle,
             smallest,
             largest,
             floor,
             ceiling,
-        } => admitted(s, handle, smallest, largest, floor, ceiling),
-        Command::Drop(handle) => dropped(s, handle),
-        Command::Report { handle, sample } => reported(s, handle, sample),
+        } => admitted(rt, s, handle, smallest, largest, floor, ceiling),
+        Command::Drop(handle) => dropped(rt, s, handle),
+        Command::Report { handle, sample } => reported(rt, s, handle, sample),
         Command::Owner(block) => {
-            owned(s, block);
+            owned(rt, s, block);
             s
         }
         Command::Anchor { handle, block } => {
-            anchored(s, handle, block);
+            anchored(rt, s, handle, block);
             s
         }
     }
 }
 
 // Two marks with nothing between them: what the marks themselves take.
-fn nothing() {
-    mark();
-    mark();
-    word(b"nothing\n");
+fn nothing(rt: &impl Print) {
+    mark(rt);
+    mark(rt);
+    word(rt, b"nothing\n");
 }
 
-fn perform(s: Schedule, line: &[u8], bytes: &mut [u8]) -> Schedule
+fn perform(rt: &impl Print, s: Schedule, line: &[u8], bytes: &mut [u8]) -> Schedule
     requires { Good s × (length line.now ≤ 65536) × (32768 ≤ length bytes.old) }
     ensures { Good result }
 {
     match order_of(line, bytes) {
-        Order::Command(command) => obeyed(s, command),
+        Order::Command(command) => obeyed(rt, s, command),
         Order::Save => {
-            saved(s, bytes);
+            saved(rt, s, bytes);
             s
         }
         Order::SaveInto(size) => {
             let n = size as usize;
-            saved(s, &mut bytes[..n]);
+            saved(rt, s, &mut bytes[..n]);
             s
         }
-        Order::Load(n) => loaded(s, &bytes[..n]),
+        Order::Load(n) => loaded(rt, s, &bytes[..n]),
         Order::Fresh => fresh(),
         Order::State => s,
         Order::Bad => {
-            nothing();
+            nothing(rt);
             s
         }
     }
 }
 
 // A line that lends a list of answers.
-fn perform_list(s: Schedule, line: &[u8]) -> Schedule
+fn perform_list(rt: &impl Print, s: Schedule, line: &[u8]) -> Schedule
     requires { Good s × (same (take (length (text_of "reports")) line.now) (text_of "reports") ≡ true) }
     ensures { Good result }
 {
@@ -309,75 +309,75 @@ fn perform_list(s: Schedule, line: &[u8]) -> Schedule
     let mut list = [0u32; MOST_ENTRIES];
     let asked = asked_of(line, &mut numbers);
     let Asked::Reports(entries, count) = asked else {
-        nothing();
+        nothing(rt);
         return s;
     };
     let end = 1 + count;
-    listed(s, &numbers[1..end], &mut list[..entries])
+    listed(rt, s, &numbers[1..end], &mut list[..entries])
 }
 
 // A line that lends a list of moves.
-fn perform_tidy(s: Schedule, line: &[u8]) -> Schedule
+fn perform_tidy(rt: &impl Print, s: Schedule, line: &[u8]) -> Schedule
     requires { Good s × (same (take (length (text_of "tidy")) line.now) (text_of "tidy") ≡ true) }
     ensures { Good result }
 {
     let mut list = [0u32; MOST_MOVES];
     let asked = tidy_asked(line);
     let TidyAsked::Lends(n) = asked else {
-        nothing();
+        nothing(rt);
         return s;
     };
-    tidied(s, &mut list[..n])
+    tidied(rt, s, &mut list[..n])
 }
 
 // The word `singly` and the numbers of reports, a line of this program alone.
-fn perform_singly(s: Schedule, line: &[u8]) -> Schedule
+fn perform_singly(rt: &impl Print, s: Schedule, line: &[u8]) -> Schedule
     requires { Good s × (same (take (length (text_of "singly")) line.now) (text_of "singly") ≡ true) }
     ensures { Good result }
 {
     let mut numbers = [0u32; LONGEST_ROW];
     let read = read_row(line, AFTER_SINGLY, &mut numbers);
     let Row::Count(count) = read else {
-        nothing();
+        nothing(rt);
         return s;
     };
-    one_by_one(s, &numbers[..count])
+    one_by_one(rt, s, &numbers[..count])
 }
 
 // A line that reads or writes a message; or it is none.
-fn perform_message(line: &[u8], bytes: &mut [u8]) -> bool
+fn perform_message(rt: &impl Print, line: &[u8], bytes: &mut [u8]) -> bool
     requires { (length line.now ≤ 65536) × (32768 ≤ length bytes.old) }
 {
     match message_asked(line, bytes) {
-        MessageAsked::Read(n) => read(&bytes[..n]),
-        MessageAsked::Write(n, message) => wrote(message, &mut bytes[..n]),
-        MessageAsked::Bad => nothing(),
+        MessageAsked::Read(n) => read(rt, &bytes[..n]),
+        MessageAsked::Write(n, message) => wrote(rt, message, &mut bytes[..n]),
+        MessageAsked::Bad => nothing(rt),
         MessageAsked::Other => return false,
     }
     true
 }
 
-fn perform_line(s: Schedule, line: &[u8], bytes: &mut [u8]) -> Schedule
+fn perform_line(rt: &impl Print, s: Schedule, line: &[u8], bytes: &mut [u8]) -> Schedule
     requires { Good s × (length line.now ≤ 65536) × (32768 ≤ length bytes.old) }
     ensures { Good result }
 {
     if opens(line, b"reports") {
-        return perform_list(s, line);
+        return perform_list(rt, s, line);
     }
     if opens(line, b"tidy") {
-        return perform_tidy(s, line);
+        return perform_tidy(rt, s, line);
     }
     if opens(line, b"singly") {
-        return perform_singly(s, line);
+        return perform_singly(rt, s, line);
     }
-    if perform_message(line, bytes) {
+    if perform_message(rt, line, bytes) {
         return s;
     }
-    perform(s, line, bytes)
+    perform(rt, s, line, bytes)
 }
 
 // A tail is not performed.
-fn perform_all(script: &[u8])
+fn perform_all(rt: &impl Print, script: &[u8])
     requires { length script.now ≤ 65536 }
 {
     let mut bytes = [0u8; 32768];
@@ -388,16 +388,16 @@ fn perform_all(script: &[u8])
         if end == script.len() {
             return;
         }
-        s = perform_line(s, &script[start..end], &mut bytes);
+        s = perform_line(rt, s, &script[start..end], &mut bytes);
         start = end + 1;
     }
 }
 
-fn main() {
+fn main(rt: HostRuntime) {
     let mut buffer = [0u8; 65536];
-    let input = read_all(&mut buffer);
+    let input = read_all(&mut rt.stdin(), &mut buffer);
     let Input::Bytes(n) = input else {
         return;
     };
-    perform_all(&buffer[..n]);
+    perform_all(&rt, &buffer[..n]);
 }

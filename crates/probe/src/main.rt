@@ -6,7 +6,6 @@ ghost use Rattle.rules.specs.Good.{Good};
 ghost use Rattle.script.specs.Performing.{most_printed};
 
 use input::{Input, read_all};
-use libc::{STDERR_FILENO, STDOUT_FILENO};
 use lists::{LONGEST_ROW, MOST_ENTRIES, MOST_MOVES, perform_reports, perform_tidy};
 use order::Performed;
 use rules::Schedule;
@@ -36,7 +35,7 @@ fn perform_line(s: Schedule, line: &[u8], bytes: &mut [u8], out: &mut [u8]) -> P
 }
 
 // Performs each line and writes what it prints; a tail is a bad line. False where the output cannot be written.
-fn perform_all(script: &[u8]) -> bool
+fn perform_all(rt: &impl Print, script: &[u8]) -> bool
     requires { length script.now ≤ 65536 }
 {
     let mut bytes = [0u8; 32768];
@@ -46,11 +45,11 @@ fn perform_all(script: &[u8]) -> bool
     while start < script.len() {
         let end = find(script, start, b'\n');
         if end == script.len() {
-            return io::write_all(STDOUT_FILENO, b"bad\n");
+            return rt.write_all(b"bad\n").is_ok();
         }
         let done = perform_line(s, &script[start..end], &mut bytes, &mut out);
         let count = done.count;
-        if !io::write_all(STDOUT_FILENO, &out[..count]) {
+        if rt.write_all(&out[..count]).is_err() {
             return false;
         }
         s = done.schedule;
@@ -59,19 +58,19 @@ fn perform_all(script: &[u8]) -> bool
     true
 }
 
-fn main() {
+fn main(rt: HostRuntime) {
     // one byte more than a script may have
     let mut buffer = [0u8; 65537];
-    let input = read_all(&mut buffer);
+    let input = read_all(&mut rt.stdin(), &mut buffer);
     let Input::Bytes(n) = input else {
-        io::write_all(STDERR_FILENO, b"probe: standard input cannot be read\n");
+        let _ = eprintln!(rt; "probe: standard input cannot be read");
         return;
     };
     if 65536 < n {
-        io::write_all(STDOUT_FILENO, b"long\n");
+        let _ = rt.write_all(b"long\n");
         return;
     }
-    if !perform_all(&buffer[..n]) {
-        io::write_all(STDERR_FILENO, b"probe: standard output cannot be written\n");
+    if !perform_all(&rt, &buffer[..n]) {
+        let _ = eprintln!(rt; "probe: standard output cannot be written");
     }
 }

@@ -1,26 +1,25 @@
 //! What the test programs print with.
 #![tactic(auto)]
 
-use libc::STDOUT_FILENO;
 use rules::{LIST_BLOCKS, TREE_BYTES};
 
 // Node 0, which is none, and the nodes of the tree.
 const NODES: usize = 2 * LIST_BLOCKS;
 
 /// Words as they are.
-pub fn word(w: &[u8]) {
-    io::write_all(STDOUT_FILENO, w);
+pub fn word(rt: &impl Print, w: &[u8]) {
+    let _ = rt.write_all(w);
 }
 
 /// A space and a number.
-pub fn number(n: u64) {
-    word(b" ");
-    io::print_decimal(STDOUT_FILENO, n);
+pub fn number(rt: &impl Print, n: u64) {
+    word(rt, b" ");
+    let _ = rt.print(n);
 }
 
 /// The end of a line.
-pub fn end() {
-    word(b"\n");
+pub fn end(rt: &impl Print) {
+    word(rt, b"\n");
 }
 
 /// How many bits of a tree are set.
@@ -39,8 +38,9 @@ fn wide(byte: u8) -> u64 {
 }
 
 /// Every byte of a tree, in hexadecimal.
-pub fn bytes(tree: &[u8; TREE_BYTES]) {
+pub fn bytes(rt: &impl Print, tree: &[u8; TREE_BYTES]) {
     for i in 0..TREE_BYTES {
-        io::print_hex(STDOUT_FILENO, wide(tree[i]), 2);
+        let byte = wide(tree[i]);
+        let _ = print!(rt; "{byte:02x}");
     }
 }

@@ -18,19 +18,19 @@ fn single(k: u32, anchor: u32) -> [u8; TREE_BYTES]
     t
 }
 
-fn say_bits(s: Schedule) {
-    show::word(b"bits set:");
-    show::number(show::bits(&s.tree.bytes));
-    show::end();
+fn say_bits(rt: &impl Print, s: Schedule) {
+    show::word(rt, b"bits set:");
+    show::number(rt, show::bits(&s.tree.bytes));
+    show::end(rt);
 }
 
 // Schedules: none live; F 8 admitted; F 1 refused; F 1 of an older image, and its drop.
-fn scheduled() {
-    say_bits(fresh());
+fn scheduled(rt: &impl Print) {
+    say_bits(rt, fresh());
     let eighth = admit(fresh(), 0, LEAST_INTERVAL, 48, 1, 1);
-    say_bits(eighth.schedule);
+    say_bits(rt, eighth.schedule);
     let refused = admit(fresh(), 63, LEAST_INTERVAL, 6, 1, 1);
-    say_bits(refused.schedule);
+    say_bits(rt, refused.schedule);
     // an image: one connection, handle 63, of F 1 with length, floor and ceiling 1, at rest; and its tree
     let whole = load(
         fresh(),
@@ -42,11 +42,11 @@ fn scheduled() {
         \xff\xff\xff\xff\xff\xff\xff\xff\xff\xff\xff\xff\xff\xff\xff\xff\xff\xff\xff\xff\xff\xff\xff\xff\xff\xff\xff\xff\xff\xff\xff\xff\
         \xff\xff\xff\xff\xff\xff\xff\xff\xff\xff\xff\xff\xff\xff\xff\xff\xff\xff\xff\xff\xff\xff\xff\xff\xff\xff\xff\xff\xff\xff\xff\xff",
     );
-    say_bits(whole.schedule);
-    show::bytes(&whole.schedule.tree.bytes);
-    show::end();
+    say_bits(rt, whole.schedule);
+    show::bytes(rt, &whole.schedule.tree.bytes);
+    show::end(rt);
     let dropped = drop(whole.schedule, 63);
-    say_bits(dropped.schedule);
+    say_bits(rt, dropped.schedule);
 }
 
 // p with its k bits in mirrored order by a walk bit by bit, which stands in this program alone.
@@ -94,42 +94,42 @@ fn all_as_walked() -> u64 {
     count
 }
 
-fn say_agreeing() {
-    show::word(b"mirrored as bit by bit, k from 0 to 9:");
-    show::number(all_as_walked());
-    show::word(b" of 1023");
-    show::end();
-    show::word(b"back when mirrored twice, k 9:");
-    show::number(agreeing(9, true));
-    show::word(b" of 512");
-    show::end();
+fn say_agreeing(rt: &impl Print) {
+    show::word(rt, b"mirrored as bit by bit, k from 0 to 9:");
+    show::number(rt, all_as_walked());
+    show::word(rt, b" of 1023");
+    show::end(rt);
+    show::word(rt, b"back when mirrored twice, k 9:");
+    show::number(rt, agreeing(9, true));
+    show::word(rt, b" of 512");
+    show::end(rt);
 }
 
 // Of p only the k lowest bits count.
-fn say_mirrored(p: u32) {
-    show::word(b"mirrored at k 0, 3 and 9,");
-    show::number(p as u64);
-    show::word(b":");
-    show::number(tree::mirror(0, p) as u64);
-    show::number(tree::mirror(3, p) as u64);
-    show::number(tree::mirror(9, p) as u64);
-    show::end();
+fn say_mirrored(rt: &impl Print, p: u32) {
+    show::word(rt, b"mirrored at k 0, 3 and 9,");
+    show::number(rt, p as u64);
+    show::word(rt, b":");
+    show::number(rt, tree::mirror(0, p) as u64);
+    show::number(rt, tree::mirror(3, p) as u64);
+    show::number(rt, tree::mirror(9, p) as u64);
+    show::end(rt);
 }
 
-fn main() {
+fn main(rt: HostRuntime) {
     let eighth = single(3, 0);
-    show::word(b"F 8, L 1, bits set:");
-    show::number(show::bits(&eighth));
-    show::end();
+    show::word(&rt, b"F 8, L 1, bits set:");
+    show::number(&rt, show::bits(&eighth));
+    show::end(&rt);
     let whole = single(0, 0);
-    show::word(b"F 1, bits set:");
-    show::number(show::bits(&whole));
-    show::end();
-    show::bytes(&whole);
-    show::end();
-    scheduled();
-    say_agreeing();
-    say_mirrored(4294967295);
-    say_mirrored(65538);
-    say_mirrored(1006);
+    show::word(&rt, b"F 1, bits set:");
+    show::number(&rt, show::bits(&whole));
+    show::end(&rt);
+    show::bytes(&rt, &whole);
+    show::end(&rt);
+    scheduled(&rt);
+    say_agreeing(&rt);
+    say_mirrored(&rt, 4294967295);
+    say_mirrored(&rt, 65538);
+    say_mirrored(&rt, 1006);
 }
