@@ -1,6 +1,6 @@
 /* The radio schedule of a growing house, and the subrate messages of HCI, for C and C++.
  *
- * Link target/staticlib/libdoor.a, which c/run builds; of a libc it needs memcpy and memset, and nothing else. x86-64 Linux only.
+ * Link crates/door/out/libdoor.a, which c/run builds; of a libc it needs memcpy and memset, and nothing else. x86-64 Linux only.
  *
  * Every number and every byte that a call is given is answered by the rule sheet, those of a message by what the Core Specification allows.
  * What the caller must keep to, as nothing checks it:
