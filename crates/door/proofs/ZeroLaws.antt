@@ -2,7 +2,6 @@
 use mathlib.Core.Path.{◌≡◌, sym, ap, ◌∙◌, subst⁻¹}
 use mathlib.Core.List.{List}
 use Prim.Native.Nat.{ℕ}
-use Rattle.rules.specs.declared.Schedule.{Schedule}
 use Rattle.rules.specs.Good.{Good, fresh}
 use Rattle.blocks.proofs.TreeLaws.{tree_empty}
 use Rattle.blocks.proofs.ScheduleLaws.{fresh_tree, fresh_is_good}
