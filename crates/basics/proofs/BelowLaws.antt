@@ -1,7 +1,7 @@
 -- What the questions about the numbers below a bound mean.
 use mathlib.Core.Path.{◌≡◌, refl, sym, ap, ap₂, ◌∙◌, subst}
 use mathlib.Core.Bool.{Bool, true, false, ◌||◌, ◌&&◌, cond, or-true, false≢true}
-use mathlib.Core.Logic.{◌≢◌, by_cases, ⊎_elim}
+use mathlib.Core.Logic.{by_cases, ⊎_elim}
 use mathlib.Core.List.Memᴰ
 use mathlib.Core.List.{List, [], ◌∷◌, ◌++◌, map, append-nil, append_assoc, Memᴰ as In}
 use mathlib.Core.Option

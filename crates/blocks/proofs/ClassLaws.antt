@@ -1,7 +1,7 @@
 -- The laws of the classes: over the list, and over endless time.
 use mathlib.Core.Path.{◌≡◌, refl, sym, ap, ap₂, ◌∙◌}
 use mathlib.Core.Bool.{Bool, true, false, ◌||◌, not, or-false, or-true, false≢true}
-use mathlib.Core.Logic.{◌≢◌, by_cases, ◌↔◌}
+use mathlib.Core.Logic.{by_cases, ◌↔◌}
 use Prim.Native.Nat.{ℕ, suc, ◌+◌, ◌-◌, ◌*◌, ◌/◌, ◌%◌, ◌^◌, ◌<◌, ◌≤◌}
 use native.Mathlib.Nat.{mod-eq_of_lt, add-mul-mod_self_right, div-add-mod', pow-suc}
 use native.Mathlib.Decide.{ℕ_discrete}

@@ -1,9 +1,9 @@
 -- What soundness means, over endless time.
 use mathlib.Core.Path.{◌≡◌, refl, sym, ap, ap₂, ◌∙◌}
 use mathlib.Core.Bool.{Bool, true, false, ◌||◌, ◌&&◌, not, or-true, false≢true}
-use mathlib.Core.Logic.{◌≢◌, by_cases, ◌↔◌}
+use mathlib.Core.Logic.{by_cases, ◌↔◌}
 use mathlib.Core.List.{List, [], ◌∷◌}
-use Prim.Native.Nat.{ℕ, zero, suc, ◌*◌, ◌%◌, ◌^◌, ◌<◌, ◌≤◌}
+use Prim.Native.Nat.{ℕ, zero, suc, ◌%◌, ◌^◌, ◌<◌, ◌≤◌}
 use native.Mathlib.Decide.{ℕ_discrete, dec_le}
 use native.Mathlib.Omega.{arith}
 use lib.ListN.{length}
@@ -12,8 +12,8 @@ use borrow.Author.Tests.{le-leb, leb-true, lt-ltb, ltb-true}
 use Rattle.rules.specs.declared.Connection.{Connection}
 use Rattle.rules.specs.declared.Schedule.{Schedule}
 use Rattle.rules.specs.Below.{any}
-use Rattle.rules.specs.Time.{block_micros, list_blocks}
-use Rattle.rules.specs.Ownership.{handles, largest_k, factor, at, belongs, owns, taken, owned_twice}
+use Rattle.rules.specs.Time.{list_blocks}
+use Rattle.rules.specs.Ownership.{handles, largest_k, at, belongs, owns, taken, owned_twice}
 use Rattle.rules.specs.Classes.{depth, free}
 use Rattle.rules.specs.Sound.{numbers_within, NumbersWithin, sound_numbers, Numbers, all_sound, apart, sound_connections, sound}
 use Rattle.rules.specs.Good.{Good, with_connections}

@@ -15,7 +15,6 @@ use borrow.Author.Tests.{le-leb, lt-leb, leb-true, le-ltb, ltb-false, not-false}
 use Rattle.rules.specs.declared.Schedule.{Schedule}
 use Rattle.rules.specs.declared.Command.TheVariants.{Admit}
 use Rattle.rules.specs.declared.Refusal.TheVariants.{HandleAbove63, HandleLive, IntervalOutside, NoInterval}
-use Rattle.rules.specs.Time.{block_slots}
 use Rattle.rules.specs.Core.{least_interval, is_interval, is_range, base_interval, subrated_interval}
 use Rattle.rules.specs.Ownership.{largest_k, subrating, taken}
 use Rattle.rules.specs.Refusals.{number, Check, check, decided}
@@ -25,7 +24,7 @@ use Rattle.rules.specs.Admit.{interval_outside, k_of, in_range, k_in, no_interva
 use Rattle.rules.specs.Below.{is_none}
 use Rattle.rules.specs.Obey.{single_from, obey}
 use Rattle.basics.proofs.BoolLaws.{both, is_false}
-use Rattle.basics.proofs.BelowLaws.{Greatest, greatest_some, greatest_none, greatest_is, greatest_is_none, is_none_lem, largest_is_largest, largest_unique}
+use Rattle.basics.proofs.BelowLaws.{greatest_some, greatest_none, greatest_is, greatest_is_none, is_none_lem, largest_is_largest, largest_unique}
 use Rattle.calls.proofs.RefusalLaws.{Passed, decided_first, decided_skip, decided_after, refusing_at}
 
 -- ---- the bounds

@@ -1,7 +1,7 @@
 -- What one call does to one connection.
 use mathlib.Core.Path.{◌≡◌, refl, sym, ap, ◌∙◌, subst, subst⁻¹}
 use mathlib.Core.Bool.{true, false}
-use mathlib.Core.Logic.{◌≢◌, by_cases, ◌⊎◌, ⊎_elim}
+use mathlib.Core.Logic.{◌≢◌, by_cases, ⊎_elim}
 use mathlib.Core.List.{List}
 use Prim.Native.Nat.{ℕ, ◌^◌}
 use native.Mathlib.Decide.{ℕ_discrete}

@@ -7,7 +7,7 @@ use borrow.Author.Tests.{ltb-false, not-false}
 use Rattle.rules.specs.declared.Schedule.{Schedule}
 use Rattle.rules.specs.Core.{is_range}
 use Rattle.rules.specs.Ownership.{belongs, owns}
-use Rattle.rules.specs.Good.{Good, tree_for}
+use Rattle.rules.specs.Good.{Good}
 use Rattle.rules.specs.Handles.{connection}
 use Rattle.rules.specs.Answers.{Answer, Written, ok}
 use Rattle.rules.specs.Admit.{admit_done, admit}
@@ -21,8 +21,8 @@ use Rattle.calls.proofs.AdmitLaws.{Reached, admit_cases}
 use Rattle.calls.proofs.RoomLaws.{no_room_exactly, room_exactly}
 use Rattle.images.proofs.SaveLaws.{save_whole}
 use Rattle.images.proofs.ImageLaws.{load_exactly, load_saves}
-use Rattle.history.specs.Calls.{Admit, Save, Load, Lent, Result, ruled_call, ruled}
-use Rattle.history.specs.Runs.{Run, now, By}
+use Rattle.history.specs.Calls.{Admit, Save, Load, Result, ruled_call, ruled}
+use Rattle.history.specs.Runs.{now, By}
 use Rattle.history.specs.Demands.{Meant, IntervalsMeant, FactorsMeant, EventsMeant, ResultsGiven, ConnectionsGiven, TreeGiven, Reaches, RoomAsked, RoomExact, RestoreExact, SavesImage, SavesSame, Demand2}
 use Rattle.history.proofs.Following.{now_after, result_after, result_is, now_good, now_sound}
 

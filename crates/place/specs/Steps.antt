@@ -1,5 +1,5 @@
 -- The steps of an admission that answer an enum, and what each answers.
-use Rattle.std.specs.Prelude.{ℕ, ◌*◌, ◌^◌, Bool, cond, ◌||◌, not, ltb}
+use Rattle.std.specs.Prelude.{ℕ, ◌*◌, Bool, cond, ◌||◌, not, ltb}
 use Rattle.std.proofs.Math.Option.{Option, none, some, get_or}
 use Rattle.rules.specs.declared.Refusal.TheVariants.{IntervalOutside, NoInterval, ShareWrong, CeilingAboveHalf, NoOpenAnchor}
 use Rattle.rules.specs.declared.Interval.{Interval}

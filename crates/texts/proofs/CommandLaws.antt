@@ -15,7 +15,7 @@ use Rattle.rules.specs.Below.{tabulate}
 use Rattle.rules.specs.Text.{byte, text}
 use Rattle.rules.specs.Bytes.{same}
 use Rattle.rules.specs.Decimal.{decimal}
-use Rattle.rules.specs.Split.{parted, before}
+use Rattle.rules.specs.Split.{before}
 use Rattle.rules.specs.Words.{spaced}
 use Rattle.rules.specs.Commands.{word_of, numbers_of, line_of, all_fit, is_form, named, fields_named, guess, confirmed, says}
 use Rattle.texts.specs.Row.{most_numbers, IsRow}
@@ -23,7 +23,7 @@ use Rattle.basics.proofs.BoolLaws.{both}
 use Rattle.basics.proofs.BytesLaws.{same_exactly}
 use Rattle.texts.proofs.SplitLaws.{Without, split_piece, split_none, before_without, before_take}
 use Rattle.texts.proofs.DecimalLaws.{decimal_digits}
-use Rattle.texts.proofs.RowLaws.{values_spaced, before_spaced, rest_spaced}
+use Rattle.texts.proofs.RowLaws.{values_spaced, rest_spaced}
 
 bad≢says : {c : Command} → ◌≡◌ {A = Line} Bad (Says c) → ⊥
 bad≢says e = let z : ◌≡◌ {A = ℕ} 0 1 = cc in omega arith

@@ -1,8 +1,8 @@
 use borrow.Author.Rules.{rules}
 use mathlib.Core.Path.{◌≡◌, refl, sym, ap, ◌∙◌}
-use mathlib.Core.Bool.{Bool, false, not}
+use mathlib.Core.Bool.{Bool, not}
 use mathlib.Core.Logic.{by_cases}
-use Prim.Native.Nat.{ℕ, ◌+◌, ◌-◌, ◌%◌, ◌<◌, ◌^◌}
+use Prim.Native.Nat.{ℕ, ◌+◌, ◌%◌, ◌<◌, ◌^◌}
 use native.Mathlib.Decide.{ℕ_discrete}
 use native.Mathlib.Omega.{arith}
 use Rattle.rules.specs.Classes.{class_taken, free}
@@ -26,23 +26,21 @@ own-bit c =
     ap (λ (x : ℕ). bit_at c.args.tree.now (x + c.nodes.p)) (sym c.factor-f.ensures.is) ∙ sym c.is_set.ensures
 
 pub nodes-preserved-then-is_set : goal.nodes-preserved-then-is_set
-nodes-preserved-then-is_set c =
-    (
-      omega arith,
-      λ t m q h.
-          by_cases (ℕ_discrete q c.nodes.p)
-          (λ s. rw s (own_shut t c.args.k c.nodes.p c.args.tree.now (within_depth c.requires.0) (node-below (goal.at.nodes-preserved-then-is_set c).In-nodes) m c.args.floor c.requires.1 (own-bit (goal.at.nodes-preserved-then-is_set c).After-is_set ∙ c.if-is_set.true)))
-          (λ s. c.nodes.invariant.1 t m q (omega arith)),
-    )
+nodes-preserved-then-is_set c = (
+  omega arith,
+  λ t m q h.
+      by_cases (ℕ_discrete q c.nodes.p)
+      (λ s. rw s (own_shut t c.args.k c.nodes.p c.args.tree.now (within_depth c.requires.0) (node-below (goal.at.nodes-preserved-then-is_set c).In-nodes) m c.args.floor c.requires.1 (own-bit (goal.at.nodes-preserved-then-is_set c).After-is_set ∙ c.if-is_set.true)))
+      (λ s. c.nodes.invariant.1 t m q (omega arith)),
+)
 
 pub loop-j-init : goal.loop-j-init
-loop-j-init c =
-    (
-      refl,
-      omega (arith, c.requires.1),
-      omega (arith, c.requires.1),
-      λ t m. rw c.mirror-a.ensures.is (own_clear t c.args.k c.nodes.p c.args.tree.now (within_depth c.requires.0) (node-below (goal.at.loop-j-init c).In-nodes) m (own-bit (goal.at.loop-j-init c).After-is_set ∙ c.if-is_set.false)),
-    )
+loop-j-init c = (
+  refl,
+  omega (arith, c.requires.1),
+  omega (arith, c.requires.1),
+  λ t m. rw c.mirror-a.ensures.is (own_clear t c.args.k c.nodes.p c.args.tree.now (within_depth c.requires.0) (node-below (goal.at.loop-j-init c).In-nodes) m (own-bit (goal.at.loop-j-init c).After-is_set ∙ c.if-is_set.false)),
+)
 
 -- what is said of block j of the run
 says : (c : After-is_free) (t : ℕ → Bool) → c.args.tree.now ≡ tree_of t
@@ -53,16 +51,15 @@ says c t m =
     c.is_free.ensures t m ∙ ap (λ (r : ℕ). not (class_taken t k r)) c.class_at.ensures.is
 
 pub nodes-preserved : goal.nodes-preserved
-nodes-preserved c =
-    (
-      omega arith,
-      λ t m q h.
-          by_cases (ℕ_discrete q c.nodes.p)
-          (λ s.
-          rw (s, ← c.mirror-a.ensures.is)
-          (shut_by t c.args.k c.args.floor c.mirror-a.result c.loop-j.j (omega arith) (not_false_is_true _ (sym (says (goal.at.nodes-preserved c).After-is_free t m) ∙ c.if-not-is_free.true))))
-          (λ s. c.nodes.invariant.1 t m q (omega arith)),
-    )
+nodes-preserved c = (
+  omega arith,
+  λ t m q h.
+      by_cases (ℕ_discrete q c.nodes.p)
+      (λ s.
+      rw (s, ← c.mirror-a.ensures.is)
+      (shut_by t c.args.k c.args.floor c.mirror-a.result c.loop-j.j (omega arith) (not_false_is_true _ (sym (says (goal.at.nodes-preserved c).After-is_free t m) ∙ c.if-not-is_free.true))))
+      (λ s. c.nodes.invariant.1 t m q (omega arith)),
+)
 
 pub loop-j-preserved : goal.loop-j-preserved
 loop-j-preserved c =

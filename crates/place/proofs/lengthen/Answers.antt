@@ -1,5 +1,4 @@
 use mathlib.Core.Path.{◌≡◌}
-use mathlib.Core.Logic.{⊎_elim}
 use Prim.Native.Nat.{◌+◌, ◌-◌, ◌≤◌, ◌<◌, ◌^◌}
 use native.Mathlib.Omega.{arith}
 use lib.Pow.{pow_mono}
@@ -35,8 +34,8 @@ loop-c-preserved c =
     let e : l.c ≡ l.c - 1 + 1 = omega arith in
     let r : MeasuredFrom k (l.c - 1 + 1) l.free (marked row) l.room = rw e at l.invariant in
     elim c.if-row-c-eq0.branch [
-      then-row-c-eq0 w ↦ rw w.free-is (measured_taken k (l.c - 1) l.free (marked row) l.room c.requires.0 r (eq-eqb (get_or row (l.c - 1) 0) 0 w.if-row-c-eq0.true))
-    | else-row-c-eq0 w ↦ rw w.free-is (measured_free k (l.c - 1) l.free (marked row) l.room c.requires.0 r (ne_eqb (get_or row (l.c - 1) 0) 0 w.if-row-c-eq0.false))
+      | then-row-c-eq0 w ↦ rw w.free-is (measured_taken k (l.c - 1) l.free (marked row) l.room c.requires.0 r (eq-eqb (get_or row (l.c - 1) 0) 0 w.if-row-c-eq0.true))
+      | else-row-c-eq0 w ↦ rw w.free-is (measured_free k (l.c - 1) l.free (marked row) l.room c.requires.0 r (ne_eqb (get_or row (l.c - 1) 0) 0 w.if-row-c-eq0.false))
     ]
 
 pub returns : goal.returns

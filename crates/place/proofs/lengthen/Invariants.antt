@@ -1,4 +1,3 @@
-use Prim.Native.Nat.{◌-◌}
 use Rattle.place.proofs.SearchLaws.{MeasuredFrom, marked}
 use Rattle.place.proofs.lengthen.Given as goal
 

@@ -1,5 +1,4 @@
 use mathlib.Core.Path.{◌≡◌, sym, ap, ◌∙◌}
-use mathlib.Core.Logic.{⊎_elim}
 use Prim.Native.Nat.{◌+◌, ◌-◌, ◌≤◌, ◌<◌, ◌^◌}
 use native.Mathlib.Omega.{arith}
 use lib.Pow.{pow_mono}
@@ -54,8 +53,8 @@ loop-c-preserved c =
     let bit : shown k c.args.tree.now (l.c - 1) ≡ c.is_set.result =
     ap (bit_at c.args.tree.now) (omega (arith, place_is (goal.at.loop-c-preserved c).In-loop-c, c.factor-f.ensures.is)) ∙ sym c.is_set.ensures in
     elim c.if-is_set.branch [
-      then-is_set w ↦ rw w.free-is (measured_taken k (l.c - 1) l.free (shown k c.args.tree.now) l.room c.requires.0 r (bit ∙ w.if-is_set.true))
-    | else-is_set w ↦ rw w.free-is (measured_free k (l.c - 1) l.free (shown k c.args.tree.now) l.room c.requires.0 r (bit ∙ w.if-is_set.false))
+      | then-is_set w ↦ rw w.free-is (measured_taken k (l.c - 1) l.free (shown k c.args.tree.now) l.room c.requires.0 r (bit ∙ w.if-is_set.true))
+      | else-is_set w ↦ rw w.free-is (measured_free k (l.c - 1) l.free (shown k c.args.tree.now) l.room c.requires.0 r (bit ∙ w.if-is_set.false))
     ]
 
 pub returns : goal.returns

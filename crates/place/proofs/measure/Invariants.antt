@@ -1,4 +1,3 @@
-use Prim.Native.Nat.{◌-◌}
 use Rattle.place.proofs.SearchLaws.{MeasuredFrom, shown}
 use Rattle.place.proofs.measure.Given as goal
 

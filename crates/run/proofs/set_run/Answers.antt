@@ -12,8 +12,7 @@ loop-j-init c = (search rules, search rules, λ f e. e ∙ tree_run_none c.args.
 
 pub take_class-requires : goal.take_class-requires
 take_class-requires c =
-    let l = c.loop-j in
-    (
+    let l = c.loop-j in (
       c.requires.0,
       c.class_at-r.ensures.below,
       still_tree c.args.k c.args.anchor c.args.from l.j c.args.taken c.args.tree.now l.tree c.requires.4 l.invariant.2,
@@ -21,8 +20,7 @@ take_class-requires c =
 
 pub give_back-requires : goal.give_back-requires
 give_back-requires c =
-    let l = c.loop-j in
-    (
+    let l = c.loop-j in (
       c.requires.0,
       c.class_at-r.ensures.below,
       still_tree c.args.k c.args.anchor c.args.from l.j c.args.taken c.args.tree.now l.tree c.requires.4 l.invariant.2,
@@ -37,16 +35,16 @@ loop-j-preserved c =
       omega arith,
       omega arith,
       elim c.if-taken.branch [
-        then-taken w ↦ λ f e.
-        w.tree-is
-        ∙ rw w.if-taken.true
-        (one_taken a.k a.anchor a.from l.j r.result a.tree.now l.tree w.take_class.new.tree
-        l.invariant.0 room r.ensures.is (rw w.if-taken.true at l.invariant.2) w.take_class.ensures f e)
-      | else-taken w ↦ λ f e.
-        w.tree-is
-        ∙ rw w.if-taken.false
-        (one_given a.k a.anchor a.from l.j r.result a.tree.now l.tree w.give_back.new.tree
-        l.invariant.0 room r.ensures.is (rw w.if-taken.false at l.invariant.2) w.give_back.ensures f e)
+        | then-taken w ↦ λ f e.
+            w.tree-is
+            ∙ rw w.if-taken.true
+            (one_taken a.k a.anchor a.from l.j r.result a.tree.now l.tree w.take_class.new.tree
+            l.invariant.0 room r.ensures.is (rw w.if-taken.true at l.invariant.2) w.take_class.ensures f e)
+        | else-taken w ↦ λ f e.
+            w.tree-is
+            ∙ rw w.if-taken.false
+            (one_given a.k a.anchor a.from l.j r.result a.tree.now l.tree w.give_back.new.tree
+            l.invariant.0 room r.ensures.is (rw w.if-taken.false at l.invariant.2) w.give_back.ensures f e)
       ],
     )
 

@@ -16,9 +16,9 @@ either_is : (c : Joined-is_set) →
 either_is c =
     let a = c.args in
     let right = bit_at a.tree.now (2 * a.n + 1) in
-    elim c.if-is_set.branch [ 
-        then-is_set w ↦ w.either'-is ∙ w.if-is_set.true ∙ ap (λ (v : Bool). v || right) (sym w.if-is_set.true ∙ c.is_set.ensures)
-    | else-is_set w ↦ w.either'-is ∙ w.is_set-either.ensures ∙ ap (λ (v : Bool). v || right) (sym w.if-is_set.false ∙ c.is_set.ensures)
+    elim c.if-is_set.branch [
+      | then-is_set w ↦ w.either'-is ∙ w.if-is_set.true ∙ ap (λ (v : Bool). v || right) (sym w.if-is_set.true ∙ c.is_set.ensures)
+      | else-is_set w ↦ w.either'-is ∙ w.is_set-either.ensures ∙ ap (λ (v : Bool). v || right) (sym w.if-is_set.false ∙ c.is_set.ensures)
     ]
 
 pub returns-then-is_set-either : goal.returns-then-is_set-either

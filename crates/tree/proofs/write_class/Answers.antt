@@ -8,11 +8,10 @@ use Rattle.tree.proofs.JoinLaws.{below_missing, class_written}
 use Rattle.tree.proofs.write_class.Goals as goal
 
 pub write_below-requires : goal.write_below-requires
-write_below-requires c =
-    (
-      rw c.node-n.ensures (node_room c.args.k c.args.r c.requires.0),
-      rw c.requires.2.1 (tree_sized c.requires.2.0),
-    )
+write_below-requires c = (
+  rw c.node-n.ensures (node_room c.args.k c.args.r c.requires.0),
+  rw c.requires.2.1 (tree_sized c.requires.2.0),
+)
 
 pub join_above-requires : goal.join_above-requires
 join_above-requires c =
