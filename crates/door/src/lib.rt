@@ -19,7 +19,7 @@ use rules::{Schedule, SubrateChange, Subrates};
 
 /// An answer in numbers: its kind, and its values in the rule sheet's order, 0 where it has none: specs/Numbers.
 #[repr(C)]
-#[derive(Drop)]
+#[derive(Clone, Copy)]
 pub struct Said {
     pub kind: u32,
     pub first: u32,
@@ -29,7 +29,7 @@ pub struct Said {
 
 /// An answer in numbers beside the schedule that the call leaves.
 #[repr(C)]
-#[derive(Drop)]
+#[derive(Clone, Copy)]
 pub struct Called {
     pub said: Said,
     pub schedule: Schedule,
@@ -37,7 +37,7 @@ pub struct Called {
 
 /// What was read: the answer in numbers, and the values of the message that it is, zeros where it has none.
 #[repr(C)]
-#[derive(Drop)]
+#[derive(Clone, Copy)]
 pub struct Read {
     pub said: Said,
     pub handle: u16,

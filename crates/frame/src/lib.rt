@@ -10,14 +10,14 @@ use rules::{
 };
 
 // The record at a cursor: its kind, the size of its payload, and the cursor after it; or bytes are missing.
-#[derive(Drop)]
+#[derive(Clone, Copy)]
 enum Header {
     Record { kind: u32, size: u32, next: usize },
     CutShort,
 }
 
 // The cursor after what is asked for; or it is not there.
-#[derive(Drop)]
+#[derive(Clone, Copy)]
 enum After {
     At(usize),
     Missing,

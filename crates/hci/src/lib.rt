@@ -25,7 +25,7 @@ const REQUEST_SIZE: usize = 15;
 const CHANGE_SIZE: usize = 14;
 
 // The five numbers of two bytes with which each message ends: min or the handle, max or the factor, and three more.
-#[derive(Drop)]
+#[derive(Clone, Copy)]
 struct Five {
     first: u16,
     top: u16,

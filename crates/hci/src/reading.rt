@@ -11,7 +11,7 @@ use codec::number;
 use rules::{Message, Reading, Refusal, SubrateChange, Subrates};
 
 // The message that bytes are, or none.
-#[derive(Drop)]
+#[derive(Clone, Copy)]
 enum Found {
     Is(Message),
     Nothing,

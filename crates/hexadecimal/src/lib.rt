@@ -11,14 +11,14 @@ mod lending;
 pub use lending::{MOST_BUFFER, blank, put_buffer};
 
 /// Bytes that were read, so many of them; or they are wrong.
-#[derive(Drop)]
+#[derive(Clone, Copy)]
 pub enum Hex {
     Bytes(usize),
     Wrong,
 }
 
 // The number that a hexadecimal digit says.
-#[derive(Drop)]
+#[derive(Clone, Copy)]
 enum Nibble {
     Is(u8),
     Wrong,

@@ -7,7 +7,7 @@ ghost use Rattle.input.specs.Promises.{Holds};
 use std::io::Read;
 
 /// How many bytes were read; or the reader cannot be read.
-#[derive(Drop)]
+#[derive(Clone, Copy)]
 pub enum Input {
     Bytes(usize),
     Unreadable,

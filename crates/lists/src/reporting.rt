@@ -18,7 +18,7 @@ use text::{Row, read_row};
 const AFTER_REPORTS: usize = 7;
 
 /// A list of so many entries, and so many numbers of reports; or a bad line.
-#[derive(Drop)]
+#[derive(Clone, Copy)]
 pub enum Asked {
     Reports(usize, usize),
     Bad,

@@ -18,7 +18,7 @@ use tidy::tidy;
 const AFTER_TIDY: usize = 4;
 
 /// A list of so many numbers; or a bad line.
-#[derive(Drop)]
+#[derive(Clone, Copy)]
 pub enum TidyAsked {
     Lends(usize),
     Bad,

@@ -17,7 +17,7 @@ const AFTER_SAVE: usize = 4;
 const AFTER_LOAD: usize = 5;
 
 /// What a line asks for; the bytes of a load are in the lent buffer, so many of them.
-#[derive(Drop)]
+#[derive(Clone, Copy)]
 pub enum Order {
     Command(Command),
     Fresh,
@@ -29,7 +29,7 @@ pub enum Order {
 }
 
 /// The schedule after a line, and how many bytes it printed.
-#[derive(Drop)]
+#[derive(Clone, Copy)]
 pub struct Performed {
     pub schedule: Schedule,
     pub count: usize,

@@ -19,7 +19,7 @@ const AFTER_CHANGE: usize = 6;
 const LONGEST_ROW: usize = 7;
 
 /// A message to read from so many bytes of the lent buffer, one to write into so many, a bad line, or one that is none of these.
-#[derive(Drop)]
+#[derive(Clone, Copy)]
 pub enum Asked {
     Read(usize),
     Write(usize, Message),

@@ -15,7 +15,7 @@ use rules::Message;
 use text::put_word;
 
 /// How many bytes a line printed; or it is no line of a message.
-#[derive(Drop)]
+#[derive(Clone, Copy)]
 pub enum Told {
     Count(usize),
     Other,

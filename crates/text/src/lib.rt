@@ -10,7 +10,7 @@ pub use writing::{
 };
 
 /// How many numbers a row has; or the bytes are no row that the lent slice takes.
-#[derive(Drop)]
+#[derive(Clone, Copy)]
 pub enum Row {
     Count(usize),
     Wrong,
