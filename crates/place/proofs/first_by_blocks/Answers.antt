@@ -36,7 +36,6 @@ nodes-preserved-then-is_set c = (
 
 pub loop-j-init : goal.loop-j-init
 loop-j-init c = (
-  refl,
   omega (arith, c.requires.1),
   omega (arith, c.requires.1),
   λ t m. rw c.mirror-a.ensures.is (own_clear t c.args.k c.nodes.p c.args.tree.now (within_depth c.requires.0) (node-below (goal.at.loop-j-init c).In-nodes) m (own-bit (goal.at.loop-j-init c).After-is_set ∙ c.if-is_set.false)),
@@ -64,14 +63,14 @@ nodes-preserved c = (
 pub loop-j-preserved : goal.loop-j-preserved
 loop-j-preserved c =
     let l = c.loop-j in
-    (l.invariant.0, omega arith, omega arith, λ t m. clear_next t _ l.j _ (l.invariant.3 t m) (not_true_is_false _ (sym (says (goal.at.loop-j-preserved c).After-is_free t m) ∙ c.if-not-is_free.false)))
+    (omega arith, omega arith, λ t m. clear_next t _ l.j _ (l.invariant.2 t m) (not_true_is_false _ (sym (says (goal.at.loop-j-preserved c).After-is_free t m) ∙ c.if-not-is_free.false)))
 
 pub returns-in-nodes : goal.returns-in-nodes
 returns-in-nodes c t m =
     let l = c.loop-j in
     let a = c.args in
     let e = c.mirror-a.ensures.is in
-    let clear = rw e at (l.invariant.3 t m) in
+    let clear = rw e at (l.invariant.2 t m) in
     ap gives e
     ∙ found_at t a.k a.floor c.nodes.p (node-below (goal.at.returns-in-nodes c).In-nodes) (λ i h. clear i (omega arith)) (c.nodes.invariant.1 t m)
 

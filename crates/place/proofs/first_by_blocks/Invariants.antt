@@ -9,7 +9,7 @@ use Rattle.place.proofs.first_by_blocks.Given as goal
 
 -- `place::first_by_blocks` meets its contract. No node before p is open; the run at p is clear up to its block j.
 abbrev pub invariant-loop-j : goal.invariant-loop-j
-invariant-loop-j l = (l.p ≡ l.p) × (1 ≤ l.j) × (l.j ≤ l.floor) × ((taken : ℕ → Bool) → l.tree ≡ tree_of taken → Clear taken l.k l.j l.a)
+invariant-loop-j l = (1 ≤ l.j) × (l.j ≤ l.floor) × ((taken : ℕ → Bool) → l.tree ≡ tree_of taken → Clear taken l.k l.j l.a)
 
 abbrev pub decreases-loop-j : goal.decreases-loop-j
 decreases-loop-j l = l.floor - l.j

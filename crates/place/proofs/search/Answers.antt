@@ -69,7 +69,7 @@ loop-j-init c =
     let a = c.args in
     let A = get_or a.anchors.now c.nodes.p 0 in
     let e : get_or a.room.now ((A + 0) % 2 ^ a.k) 0 ≡ c.wide-j.result = rw (anchor-first (goal.at.loop-j-init c).In-nodes) (sym c.wide-j.ensures.0) in
-    (refl, λ t m i l. clear_more t a.k a.room.now m 0 A (λ j h. absurd (omega arith)) i (omega (arith, e)))
+    λ t m i l. clear_more t a.k a.room.now m 0 A (λ j h. absurd (omega arith)) i (omega (arith, e))
 
 pub overflow_cast-a-in-loop-j : goal.overflow_cast-a-in-loop-j
 overflow_cast-a-in-loop-j c =
@@ -107,13 +107,13 @@ pub loop-j-preserved : goal.loop-j-preserved
 loop-j-preserved c =
     let l = c.loop-j in
     let a = c.args in
-    (l.invariant.0, λ t m. rw (← c.class_at.ensures.is, ← c.wide-free.ensures.0) at (clear_more t a.k a.room.now m l.j _ (l.invariant.1 t m)))
+    λ t m. rw (← c.class_at.ensures.is, ← c.wide-free.ensures.0) at (clear_more t a.k a.room.now m l.j _ (l.invariant t m))
 
 pub returns-in-nodes : goal.returns-in-nodes
 returns-in-nodes c f m =
     let l = c.loop-j in
     let a = c.args in
-    let clear = rw (anchor-is (goal.at.returns-in-nodes c).In-nodes) at (l.invariant.1 f m) in
+    let clear = rw (anchor-is (goal.at.returns-in-nodes c).In-nodes) at (l.invariant f m) in
     rw (anchor-is (goal.at.returns-in-nodes c).In-nodes)
     (found_at f a.k a.floor c.nodes.p (omega (arith, c.factor-f.ensures.is)) (λ i h. clear i (omega arith)) (c.nodes.invariant.1 f m))
 

@@ -9,7 +9,7 @@ use Rattle.place.proofs.search.Given as goal
 
 -- `place::search` meets its contract. No node before p is open; the run at p is clear up to its block j.
 abbrev pub invariant-loop-j : goal.invariant-loop-j
-invariant-loop-j l = (l.p ≡ l.p) × ((taken : ℕ → Bool) → Stretches l.k taken l.room → Clear taken l.k l.j l.a)
+invariant-loop-j l = (taken : ℕ → Bool) → Stretches l.k taken l.room → Clear taken l.k l.j l.a
 
 abbrev pub decreases-loop-j : goal.decreases-loop-j
 decreases-loop-j l = l.floor - l.j

@@ -7,7 +7,7 @@ use Rattle.tidy.proofs.arranging.arrange_depth.Given as goal
 
 -- `arranging::arrange_depth` meets its contract. The invariant: the connections of the depth before handle h are placed.
 abbrev pub invariant-loop-h : goal.invariant-loop-h
-invariant-loop-h l = (l.h ≤ handles) × (l.s ≡ l.initial.s) × (l.all ≡ true) × PlacingTo l.s.connections l.k l.h l.initial.new l.new l.room
+invariant-loop-h l = (l.h ≤ handles) × (l.all ≡ true) × PlacingTo l.s.connections l.k l.h l.initial.new l.new l.room
 
 abbrev pub decreases-loop-h : goal.decreases-loop-h
 decreases-loop-h l = handles - l.h
