@@ -9,13 +9,9 @@ use Rattle.restore.specs.Promises.{records}
 use Rattle.restore.proofs.Calls.{checked_sound, checked_illegal, checked_unsound}
 use Rattle.image.proofs.Loads.{unframed, unsound, illegal}
 use Rattle.image.proofs.loading.load.Goals as goal
-use Rattle.image.proofs.loading.load.Goals.{After-shared_slice_known-1, In-Counts}
+use Rattle.image.proofs.loading.load.Goals.{In-Counts}
 
 -- `image::load` meets its contract: each exit is one check, after those before it.
--- the slice holds bytes
-small : (c : After-shared_slice_known-1) → AllBytes c.args.bytes.now
-small c i = omega (arith, c.type_inv.bytes i)
-
 -- check 9 is passed
 whole : (c : In-Counts) → Framed c.args.bytes.now c.in-Counts.n
 whole c = subst (λ (x : Frame). Frames c.args.bytes.now (of_frame x)) c.in-Counts.is c.framed-frame.ensures
@@ -23,7 +19,7 @@ whole c = subst (λ (x : Frame). Frames c.args.bytes.now (of_frame x)) c.in-Coun
 pub returns-in_default : goal.returns-in_default
 returns-in_default c =
     let wrong = subst (λ (x : Frame). Frames c.args.bytes.now (of_frame x)) c.in_default.is c.framed-frame.ensures in
-    unframed c.args.s c.requires c.args.bytes.now (small (goal.at.returns-in_default c).After-shared_slice_known-1) _ refl wrong.1
+    unframed c.args.s c.requires c.args.bytes.now (λ i. omega (arith, c.type_inv.bytes i)) _ refl wrong.1
 
 pub check_records-requires : goal.check_records-requires
 check_records-requires c = whole (goal.at.check_records-requires c).In-Counts
@@ -34,10 +30,10 @@ loaded-requires c =
 
 pub returns-in-Unsound : goal.returns-in-Unsound
 returns-in-Unsound c =
-    unsound c.args.s c.requires c.args.bytes.now (small (goal.at.returns-in-Unsound c).After-shared_slice_known-1) c.in-Counts.n (whole (goal.at.returns-in-Unsound c).In-Counts) _ refl
+    unsound c.args.s c.requires c.args.bytes.now (λ i. omega (arith, c.type_inv.bytes i)) c.in-Counts.n (whole (goal.at.returns-in-Unsound c).In-Counts) _ refl
     (checked_unsound (records c.args.bytes.now) (ap of_soundness (sym c.in-Unsound.is) ∙ c.check_records.ensures))
 
 pub returns-in-Illegal : goal.returns-in-Illegal
 returns-in-Illegal c =
     let w = checked_illegal (records c.args.bytes.now) (ap of_soundness (sym c.in-Illegal.is) ∙ c.check_records.ensures) in
-    illegal c.args.s c.requires c.args.bytes.now (small (goal.at.returns-in-Illegal c).After-shared_slice_known-1) c.in-Counts.n (whole (goal.at.returns-in-Illegal c).In-Counts) _ refl w.0 w.1
+    illegal c.args.s c.requires c.args.bytes.now (λ i. omega (arith, c.type_inv.bytes i)) c.in-Counts.n (whole (goal.at.returns-in-Illegal c).In-Counts) _ refl w.0 w.1
