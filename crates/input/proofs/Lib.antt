@@ -1,0 +1,2 @@
+-- What was read lies within the buffer.
+pub mod Reading
