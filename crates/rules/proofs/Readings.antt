@@ -9,7 +9,7 @@ use Rattle.rules.specs.declared.Schedule.{Schedule}
 use Rattle.rules.specs.declared.Report.{Report}
 use Rattle.rules.specs.Sound.{sound}
 use Rattle.rules.specs.Good.{fresh, with_connections, with_connection}
-use Rattle.rules.specs.Answers.{refusing, refusing_list, refused, tight, reported}
+use Rattle.rules.specs.Answers.{refusing, refusing_list, refused, tight, reported, tidied}
 use Rattle.rules.specs.Handles.{connection, each_live}
 use Rattle.rules.specs.Admit.{admit}
 use Rattle.rules.specs.Report.{report}
@@ -18,6 +18,7 @@ use Rattle.rules.specs.Records.{Piece, joined}
 use Rattle.rules.specs.Form.{tree_kind, tree_size}
 use Rattle.rules.specs.Image.{count_piece, connection_piece, connection_pieces}
 use Rattle.rules.specs.Load.{load}
+use Rattle.rules.specs.Tidy.{tidy}
 
 -- Two connections with one block in eight, side by side; the first may grow, and cannot.
 pub neighbour : ℕ → Connection
@@ -94,6 +95,12 @@ pub lists_in_order : (report_all alone three (old ∷ old ∷ []) ≡ refusing_l
     × ((report_all alone [] []).answer ≡ reported 0)
 unfolding alone report_all
 lists_in_order = (refl, refl, refl, refl)
+
+-- ---- a tidy
+-- A list is short of the moves, and not of the connections: of one that stays where it is no entry is asked for.
+pub nothing_moves : (tidy alone []).answer ≡ tidied 0
+unfolding alone tidy
+nothing_moves = refl
 
 -- ---- a load of records with a k of 9
 -- A connection of length 1.
