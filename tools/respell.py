@@ -44,7 +44,8 @@ def code(pattern, text, kept=()):
 def lent(text):
     """The names that a file takes from a library: its own lemma of that name is another."""
     libraries = r"(?m)^use (?:mathlib|lib|native|Prim|borrow|Rattle\.std)[\w.ᴰ]*\.\{(.*)\}"
-    return {name.strip() for names in re.findall(libraries, text) for name in names.split(",")}
+    names = {name.strip() for names in re.findall(libraries, text) for name in names.split(",")}
+    return names - {"Option·elim"}  # which port.py leaves to a hand
 
 
 def answered(text):
