@@ -103,9 +103,9 @@ module _ (placed : List Connection) (c : Connection) where
       go none e = absurd (none-ne-some A e)
       go (some p) e = (p, refl, cc)
 
-  next-none : (placed_next placed c ≡ none) ↔ (first_open (taken placed) c.k c.length ≡ none)
+  next_none : (placed_next placed c ≡ none) ↔ (first_open (taken placed) c.k c.length ≡ none)
   unfolding placed_next Option-elim
-  next-none = (go (first_open (taken placed) c.k c.length), λ e. rw e)
+  next_none = (go (first_open (taken placed) c.k c.length), λ e. rw e)
     where
       go : (o : Option ℕ) → Option-elim o none (λ p. some (mirrored c.k p)) ≡ none → o ≡ none
       go none e = refl
@@ -125,7 +125,7 @@ module _ (placed : List Connection) (c : Connection) where
     pub next_shut : (placed_next placed c ≡ none) ↔ ((A : ℕ) → A < 2 ^ c.k → RunFreeEver placed c.k c.length A → ⊥)
     next_shut =
         let n = none_ever placed c.k c.length ((sound_exactly placed).1 s) (within_depth deep) in
-        (λ e. n.0 (next-none.0 e), λ x. next-none.1 (n.1 x))
+        (λ e. n.0 (next_none.0 e), λ x. next_none.1 (n.1 x))
 
 -- Its numbers stay sound.
 next_numbers : (placed : List Connection) (c : Connection) (A : ℕ) → Numbers c → placed_next placed c ≡ some A → Numbers (with_anchor c A)

@@ -138,10 +138,10 @@ commanded_fits v w =
 pub allowed_fits : (m : Message) → is_allowed m ≡ true → FailedFits m → Fits m
 allowed_fits (Default v) a f = commanded_fits v ((default_allowed v).0 a)
 allowed_fits (Request handle v) a f = let w = (request_allowed handle v).0 a in (omega (arith, w.0), commanded_fits v w.1)
-allowed_fits (Change e) a f = by_cases (ℕ_discrete e.status 0) zero-fits f
+allowed_fits (Change e) a f = by_cases (ℕ_discrete e.status 0) zero_fits f
   where
-    zero-fits : e.status ≡ 0 → Fits (Change e)
-    zero-fits z =
+    zero_fits : e.status ≡ 0 → Fits (Change e)
+    zero_fits z =
         let w = (change_allowed e z).0 a in
         let r = w.1 in
         (omega arith, (omega (arith, w.0), (omega (arith, r.to_500), (omega (arith, r.latency_to_499), (omega (arith, r.continuation_to_499), (omega (arith, r.timeout_to_3200), tt))))))

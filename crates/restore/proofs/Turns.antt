@@ -67,18 +67,18 @@ module _ (rs : List Piece) (i : ℕ) (l : i < length rs) (e : records_within lar
     turn_takes after h eh f s =
         let first = take i rs in
         let more : first ++ (nth rs i ∷ []) ≡ take (suc i) rs = sym (take-suc rs i _ l) in
-        let sound-so = sound_next rs e i l in
+        let sound_so = sound_next rs e i l in
         rw (add-one i)
         (record {
-          placed = rw (w.placed, eh, ec) (sym (placed_here first (nth rs i) sound-so) ∙ ap at_handles more);
+          placed = rw (w.placed, eh, ec) (sym (placed_here first (nth rs i) sound_so) ∙ ap at_handles more);
           marked =
               s (taken (at_handles first)) w.marked
               ∙ ap (λ (x : Connection). tree_of (set_run x.k x.anchor 0 x.length true (taken (at_handles first)))) ec
-              ∙ run_tree first (nth rs i) sound-so
+              ∙ run_tree first (nth rs i) sound_so
               ∙ ap (λ (xs : List Piece). tree_of (taken (at_handles xs))) more;
           separate =
               ap (λ (xs : List Piece). apart (at_handles xs)) (sym more)
-              ∙ run_apart first (nth rs i) sound-so w.separate (said true f);
+              ∙ run_apart first (nth rs i) sound_so w.separate (said true f);
         })
 
 -- ---- the answers

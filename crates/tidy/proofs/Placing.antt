@@ -51,9 +51,9 @@ module _ (placed : List Connection) (c : Connection) where
           let q : A ≡ mirrored c.k p = cc in
           (ap some (sym q), omega (arith, mirror_lt c.k p))
 
-  pub next-none : refuses (number NoOpenAnchor) ≡ place_step (taken placed) c.k c.length → placed_next placed c ≡ none
+  pub next_none : refuses (number NoOpenAnchor) ≡ place_step (taken placed) c.k c.length → placed_next placed c ≡ none
   unfolding place_step placed_next Option-elim
-  next-none = go (first_open (taken placed) c.k c.length)
+  next_none = go (first_open (taken placed) c.k c.length)
     where
       go : (o : Option ℕ) → refuses (number NoOpenAnchor) ≡ place_at c.k o → Option-elim o none (λ p. some (mirrored c.k p)) ≡ none
       go none e = refl
@@ -158,7 +158,7 @@ module _ (cs : List Connection) (k h : ℕ) (start new : Schedule) (room : List 
     placing_stops r room' s all =
         let w = those_first (h + 1) handles (at_depth cs k) (omega arith) in
         let none_here : placed_next new.connections (at cs h) ≡ none =
-        next-none new.connections (at cs h) (s ∙ ap (λ (x : ℕ). place_step (taken new.connections) x (at cs h).length) (sym is_deep)) in
+        next_none new.connections (at cs h) (s ∙ ap (λ (x : ℕ). place_step (taken new.connections) x (at cs h).length) (sym is_deep)) in
         let stuck : place_all cs (those handles (at_depth cs k)) start.connections ≡ none =
         ap (λ (hs : List ℕ). place_all cs hs start.connections) w.1
         ∙ place_stuck cs (those (h + 1) (at_depth cs k)) w.0 start.connections

@@ -18,11 +18,11 @@ pub nodes-init : goal.nodes-init
 nodes-init c = (search rules, λ t m q l. absurd (omega arith))
 
 -- node p is one of the depth, and its bit is that of the anchor's class
-node-below : (c : In-nodes) → c.nodes.p < 2 ^ c.args.k
-node-below c = omega (arith, c.factor-f.ensures.is)
+node_below : (c : In-nodes) → c.nodes.p < 2 ^ c.args.k
+node_below c = omega (arith, c.factor-f.ensures.is)
 
-own-bit : (c : After-is_set) → bit_at c.args.tree.now (2 ^ c.args.k + c.nodes.p) ≡ c.is_set.result
-own-bit c =
+own_bit : (c : After-is_set) → bit_at c.args.tree.now (2 ^ c.args.k + c.nodes.p) ≡ c.is_set.result
+own_bit c =
     ap (λ (x : ℕ). bit_at c.args.tree.now (x + c.nodes.p)) (sym c.factor-f.ensures.is) ∙ sym c.is_set.ensures
 
 pub nodes-preserved-then-is_set : goal.nodes-preserved-then-is_set
@@ -30,7 +30,7 @@ nodes-preserved-then-is_set c = (
   omega arith,
   λ t m q h.
       by_cases (ℕ_discrete q c.nodes.p)
-      (λ s. rw s (own_shut t c.args.k c.nodes.p c.args.tree.now (within_depth c.requires.0) (node-below (goal.at.nodes-preserved-then-is_set c).In-nodes) m c.args.floor c.requires.1 (own-bit (goal.at.nodes-preserved-then-is_set c).After-is_set ∙ c.if-is_set.true)))
+      (λ s. rw s (own_shut t c.args.k c.nodes.p c.args.tree.now (within_depth c.requires.0) (node_below (goal.at.nodes-preserved-then-is_set c).In-nodes) m c.args.floor c.requires.1 (own_bit (goal.at.nodes-preserved-then-is_set c).After-is_set ∙ c.if-is_set.true)))
       (λ s. c.nodes.invariant.1 t m q (omega arith)),
 )
 
@@ -38,7 +38,7 @@ pub loop-j-init : goal.loop-j-init
 loop-j-init c = (
   omega (arith, c.requires.1),
   omega (arith, c.requires.1),
-  λ t m. rw c.mirror-a.ensures.is (own_clear t c.args.k c.nodes.p c.args.tree.now (within_depth c.requires.0) (node-below (goal.at.loop-j-init c).In-nodes) m (own-bit (goal.at.loop-j-init c).After-is_set ∙ c.if-is_set.false)),
+  λ t m. rw c.mirror-a.ensures.is (own_clear t c.args.k c.nodes.p c.args.tree.now (within_depth c.requires.0) (node_below (goal.at.loop-j-init c).In-nodes) m (own_bit (goal.at.loop-j-init c).After-is_set ∙ c.if-is_set.false)),
 )
 
 -- what is said of block j of the run
@@ -72,7 +72,7 @@ returns-in-nodes c t m =
     let e = c.mirror-a.ensures.is in
     let clear = rw e at (l.invariant.2 t m) in
     ap gives e
-    ∙ found_at t a.k a.floor c.nodes.p (node-below (goal.at.returns-in-nodes c).In-nodes) (λ i h. clear i (omega arith)) (c.nodes.invariant.1 t m)
+    ∙ found_at t a.k a.floor c.nodes.p (node_below (goal.at.returns-in-nodes c).In-nodes) (λ i h. clear i (omega arith)) (c.nodes.invariant.1 t m)
 
 pub returns : goal.returns
 returns c t m =

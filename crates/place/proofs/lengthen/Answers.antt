@@ -15,16 +15,16 @@ loop-c-init c =
     rw c.factor-f.ensures.is (measured_none a.k (marked a.row.now) a.room.now c.requires.1)
 
 -- class c - 1 is in the row
-row-holds : (c : In-loop-c) → c.loop-c.c - 1 < row_classes
-row-holds c =
+row_holds : (c : In-loop-c) → c.loop-c.c - 1 < row_classes
+row_holds c =
     let g : 2 ^ c.args.k ≤ row_classes = pow_mono c.requires.0 in
     omega arith
 
 pub bounds-row-c : goal.bounds-row-c
-bounds-row-c c = row-holds (goal.at.bounds-row-c c).In-loop-c
+bounds-row-c c = row_holds (goal.at.bounds-row-c c).In-loop-c
 
 pub bounds-room-c : goal.bounds-room-c
-bounds-room-c c = row-holds (goal.at.bounds-room-c c).In-loop-c
+bounds-room-c c = row_holds (goal.at.bounds-room-c c).In-loop-c
 
 pub loop-c-preserved : goal.loop-c-preserved
 loop-c-preserved c =

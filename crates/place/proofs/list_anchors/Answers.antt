@@ -14,23 +14,23 @@ pub loop-p-init : goal.loop-p-init
 loop-p-init c = (omega arith, listed_none c.args.k c.args.anchors.now c.requires.1)
 
 -- a place with two after it
-place-below : (c : In-loop-p) → c.loop-p.p < 2 ^ c.args.k / 2
-place-below c = omega (arith, c.factor-highest.ensures.is)
+place_below : (c : In-loop-p) → c.loop-p.p < 2 ^ c.args.k / 2
+place_below c = omega (arith, c.factor-highest.ensures.is)
 
 -- both are in the row
-row-holds : (c : In-loop-p) → 2 * c.loop-p.p + 1 < row_classes
-row-holds c =
+row_holds : (c : In-loop-p) → 2 * c.loop-p.p + 1 < row_classes
+row_holds c =
     let g : 2 ^ c.args.k ≤ row_classes = pow_mono c.requires.0 in
-    omega (arith, place-below c)
+    omega (arith, place_below c)
 
 -- the anchor of half the place
 half_is : (c : In-loop-p) → get_or c.loop-p.anchors c.loop-p.p 0 ≡ mirrored c.args.k c.loop-p.p
 half_is c =
     let l = c.loop-p in
-    listed_at c.args.k l.p l.anchors c.requires.0 (place-below c) l.invariant.1
+    listed_at c.args.k l.p l.anchors c.requires.0 (place_below c) l.invariant.1
 
 pub bounds-anchors-p-in-loop-p : goal.bounds-anchors-p-in-loop-p
-bounds-anchors-p-in-loop-p c = omega (arith, row-holds (goal.at.bounds-anchors-p-in-loop-p c).In-loop-p)
+bounds-anchors-p-in-loop-p c = omega (arith, row_holds (goal.at.bounds-anchors-p-in-loop-p c).In-loop-p)
 
 pub overflow_add-anchors : goal.overflow_add-anchors
 overflow_add-anchors c =
@@ -39,12 +39,12 @@ overflow_add-anchors c =
     omega (arith, half_is (goal.at.overflow_add-anchors c).In-loop-p, mirror_lt k c.loop-p.p, c.factor-highest.ensures.is)
 
 pub bounds-anchors-p-in-loop-p-2 : goal.bounds-anchors-p-in-loop-p-2
-bounds-anchors-p-in-loop-p-2 c = omega (arith, row-holds (goal.at.bounds-anchors-p-in-loop-p-2 c).In-loop-p)
+bounds-anchors-p-in-loop-p-2 c = omega (arith, row_holds (goal.at.bounds-anchors-p-in-loop-p-2 c).In-loop-p)
 
 pub loop-p-preserved : goal.loop-p-preserved
 loop-p-preserved c =
     let l = c.loop-p in
-    (omega arith, rw (← c.factor-highest.ensures.is) at (listed_more c.args.k l.p l.anchors c.requires.0 (place-below (goal.at.loop-p-preserved c).In-loop-p) l.invariant.1))
+    (omega arith, rw (← c.factor-highest.ensures.is) at (listed_more c.args.k l.p l.anchors c.requires.0 (place_below (goal.at.loop-p-preserved c).In-loop-p) l.invariant.1))
 
 pub returns : goal.returns
 returns c =

@@ -18,31 +18,31 @@ loop-c-init c =
     rw c.factor-f.ensures.is (measured_none a.k (shown a.k a.tree.now) a.room.now c.requires.2)
 
 -- class c - 1 is in the row
-row-holds : (c : In-loop-c) → c.loop-c.c - 1 < row_classes
-row-holds c =
+row_holds : (c : In-loop-c) → c.loop-c.c - 1 < row_classes
+row_holds c =
     let g : 2 ^ c.args.k ≤ row_classes = pow_mono c.requires.0 in
     omega arith
 
 pub bounds-anchors-c : goal.bounds-anchors-c
-bounds-anchors-c c = row-holds (goal.at.bounds-anchors-c c).In-loop-c
+bounds-anchors-c c = row_holds (goal.at.bounds-anchors-c c).In-loop-c
 
 -- the node of class c - 1
 place_is : (c : In-loop-c) → get_or c.args.anchors.now (c.loop-c.c - 1) 0 ≡ mirrored c.args.k (c.loop-c.c - 1)
 place_is c = c.requires.1 (c.loop-c.c - 1) (omega arith)
 
-place-below : (c : In-loop-c) → get_or c.args.anchors.now (c.loop-c.c - 1) 0 < row_classes
-place-below c =
+place_below : (c : In-loop-c) → get_or c.args.anchors.now (c.loop-c.c - 1) 0 < row_classes
+place_below c =
     let g : 2 ^ c.args.k ≤ row_classes = pow_mono c.requires.0 in
     omega (arith, place_is c, mirror_lt c.args.k (c.loop-c.c - 1))
 
 pub overflow_add-f : goal.overflow_add-f
-overflow_add-f c = omega (arith, place-below (goal.at.overflow_add-f c).In-loop-c)
+overflow_add-f c = omega (arith, place_below (goal.at.overflow_add-f c).In-loop-c)
 
 pub is_set-requires : goal.is_set-requires
-is_set-requires c = omega (arith, place-below (goal.at.is_set-requires c).In-loop-c)
+is_set-requires c = omega (arith, place_below (goal.at.is_set-requires c).In-loop-c)
 
 pub bounds-room-c : goal.bounds-room-c
-bounds-room-c c = row-holds (goal.at.bounds-room-c c).In-loop-c
+bounds-room-c c = row_holds (goal.at.bounds-room-c c).In-loop-c
 
 pub loop-c-preserved : goal.loop-c-preserved
 loop-c-preserved c =

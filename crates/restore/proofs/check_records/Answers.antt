@@ -46,9 +46,9 @@ pub handle_at-h-requires : goal.handle_at-h-requires
 handle_at-h-requires c = room (goal.at.handle_at-h-requires c).In-loop-i
 
 -- its handle
-handle-read : (c : After-handle_at-h)
+handle_read : (c : After-handle_at-h)
     → c.handle_at-h.result ≡ handle_in (nth (records c.args.bytes.now) c.loop-i.i)
-handle-read c =
+handle_read c =
     let l = c.loop-i in
     c.handle_at-h.ensures _ (goes_on_lem c.args.bytes.now c.args.n c.requires (small _ c.type_inv.bytes) l.i c.loop-i-test.true l.cursor l.invariant.1)
 
@@ -56,28 +56,28 @@ pub returns-then-h : goal.returns-then-h
 returns-then-h c =
     let l = c.loop-i in
     let a = c.args in
-    tested_above (records a.bytes.now) l.i l.least c.handle_at-h.result l.illegal (inside (goal.at.returns-then-h c).In-loop-i) l.invariant.2 (handle-read (goal.at.returns-then-h c).After-handle_at-h) c.if-h.true
+    tested_above (records a.bytes.now) l.i l.least c.handle_at-h.result l.illegal (inside (goal.at.returns-then-h c).In-loop-i) l.invariant.2 (handle_read (goal.at.returns-then-h c).After-handle_at-h) c.if-h.true
 
 pub returns-then-h-least : goal.returns-then-h-least
 returns-then-h-least c =
     let l = c.loop-i in
     let a = c.args in
-    tested_falls (records a.bytes.now) l.i l.least c.handle_at-h.result l.illegal (inside (goal.at.returns-then-h-least c).In-loop-i) l.invariant.2 (handle-read (goal.at.returns-then-h-least c).After-handle_at-h) c.if-h-least.true
+    tested_falls (records a.bytes.now) l.i l.least c.handle_at-h.result l.illegal (inside (goal.at.returns-then-h-least c).In-loop-i) l.invariant.2 (handle_read (goal.at.returns-then-h-least c).After-handle_at-h) c.if-h-least.true
 
 pub connection_at-c-requires : goal.connection_at-c-requires
 connection_at-c-requires c = room (goal.at.connection_at-c-requires c).In-loop-i
 
 -- its connection
-connection-read : (c : After-connection_at-c)
+connection_read : (c : After-connection_at-c)
     → c.connection_at-c.result ≡ connection_in (nth (records c.args.bytes.now) c.loop-i.i)
-connection-read c =
+connection_read c =
     let l = c.loop-i in
     c.connection_at-c.ensures _ (goes_on_lem c.args.bytes.now c.args.n c.requires (small _ c.type_inv.bytes) l.i c.loop-i-test.true l.cursor l.invariant.1)
 
 -- what the test says of it
-numbers-said : (c : After-numbers_within)
+numbers_said : (c : After-numbers_within)
     → numbers_within largest_record_k (connection_in (nth (records c.args.bytes.now) c.loop-i.i)) ≡ c.numbers_within.result
-numbers-said c =
+numbers_said c =
     let l = c.loop-i in
     sym (c.numbers_within.ensures
     ∙ ap (numbers_within largest_record_k)
@@ -87,8 +87,8 @@ pub returns-then-not-numbers_within : goal.returns-then-not-numbers_within
 returns-then-not-numbers_within c =
     let l = c.loop-i in
     let a = c.args in
-    tested_fails (records a.bytes.now) l.i l.least c.handle_at-h.result l.illegal (inside (goal.at.returns-then-not-numbers_within c).In-loop-i) l.invariant.2 (handle-read (goal.at.returns-then-not-numbers_within c).After-handle_at-h)
-    (numbers-said (goal.at.returns-then-not-numbers_within c).After-numbers_within ∙ c.if-not-numbers_within.true)
+    tested_fails (records a.bytes.now) l.i l.least c.handle_at-h.result l.illegal (inside (goal.at.returns-then-not-numbers_within c).In-loop-i) l.invariant.2 (handle_read (goal.at.returns-then-not-numbers_within c).After-handle_at-h)
+    (numbers_said (goal.at.returns-then-not-numbers_within c).After-numbers_within ∙ c.if-not-numbers_within.true)
 
 pub next-cursor-requires-in-loop-i : goal.next-cursor-requires-in-loop-i
 next-cursor-requires-in-loop-i c = omega (arith, room (goal.at.next-cursor-requires-in-loop-i c).In-loop-i)
@@ -98,8 +98,8 @@ loop-i-preserved c =
     let l = c.loop-i in (
       omega arith,
       cursor_next c.args.bytes.now c.args.n c.requires (small _ c.type_inv.bytes) l.i c.loop-i-test.true l.cursor l.invariant.1 c.next-cursor-in-loop-i.result c.next-cursor-in-loop-i.ensures,
-      tested_more (records c.args.bytes.now) l.i l.least c.handle_at-h.result l.illegal (inside (goal.at.loop-i-preserved c).In-loop-i) l.invariant.2 (handle-read (goal.at.loop-i-preserved c).After-handle_at-h) c.if-h.false c.if-h-least.false
-          (numbers-said (goal.at.loop-i-preserved c).After-numbers_within ∙ c.if-not-numbers_within.false) _ (ap (λ (x : Connection). x.k) (connection-read (goal.at.loop-i-preserved c).After-connection_at-c)),
+      tested_more (records c.args.bytes.now) l.i l.least c.handle_at-h.result l.illegal (inside (goal.at.loop-i-preserved c).In-loop-i) l.invariant.2 (handle_read (goal.at.loop-i-preserved c).After-handle_at-h) c.if-h.false c.if-h-least.false
+          (numbers_said (goal.at.loop-i-preserved c).After-numbers_within ∙ c.if-not-numbers_within.false) _ (ap (λ (x : Connection). x.k) (connection_read (goal.at.loop-i-preserved c).After-connection_at-c)),
     )
 
 pub returns-then-illegal : goal.returns-then-illegal

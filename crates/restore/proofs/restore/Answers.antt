@@ -51,16 +51,16 @@ pub connection_at-c-requires : goal.connection_at-c-requires
 connection_at-c-requires c = room (goal.at.connection_at-c-requires c).In-loop-i
 
 -- its connection, with sound numbers, and its handle
-connection-read : (c : After-connection_at-c)
+connection_read : (c : After-connection_at-c)
     → c.connection_at-c.result ≡ connection_in (nth (records c.args.bytes.now) c.loop-i.i)
-connection-read c =
+connection_read c =
     let l = c.loop-i in
     c.connection_at-c.ensures _ (goes_on_lem c.args.bytes.now c.args.n c.requires.0 (small _ c.type_inv.bytes) l.i c.loop-i-test.true l.cursor l.invariant.1)
 
-numbers-read : (c : After-connection_at-c) → Numbers c.connection_at-c.result
-numbers-read c =
+numbers_read : (c : After-connection_at-c) → Numbers c.connection_at-c.result
+numbers_read c =
     let l = c.loop-i in
-    turn_numbers (records c.args.bytes.now) l.i (omega (arith, connections_long c.args.bytes.now c.args.n c.requires.0 (small _ c.type_inv.bytes), c.loop-i-test.true)) c.requires.1 c.connection_at-c.result (connection-read c)
+    turn_numbers (records c.args.bytes.now) l.i (omega (arith, connections_long c.args.bytes.now c.args.n c.requires.0 (small _ c.type_inv.bytes), c.loop-i-test.true)) c.requires.1 c.connection_at-c.result (connection_read c)
 
 -- the tree so far is one
 treed : (c : After-connection_at-c) → IsTree c.loop-i.s.tree.bytes
@@ -68,35 +68,35 @@ treed c =
     let l = c.loop-i in
     taken_tree (records c.args.bytes.now) l.i l.s.connections l.s.tree.bytes l.invariant.2
 
-handle-read : (c : After-handle_at-h)
+handle_read : (c : After-handle_at-h)
     → c.handle_at-h.result ≡ handle_in (nth (records c.args.bytes.now) c.loop-i.i)
-handle-read c =
+handle_read c =
     let l = c.loop-i in
     c.handle_at-h.ensures _ (goes_on_lem c.args.bytes.now c.args.n c.requires.0 (small _ c.type_inv.bytes) l.i c.loop-i-test.true l.cursor l.invariant.1)
 
-handle-small : (c : After-handle_at-h) → c.handle_at-h.result < handles
-handle-small c =
+handle_small : (c : After-handle_at-h) → c.handle_at-h.result < handles
+handle_small c =
     let l = c.loop-i in
-    rw (handle-read c) (turn_handle (records c.args.bytes.now) l.i (omega (arith, connections_long c.args.bytes.now c.args.n c.requires.0 (small _ c.type_inv.bytes), c.loop-i-test.true)) c.requires.1 c.connection_at-c.result (c.connection_at-c.ensures _ (goes_on_lem c.args.bytes.now c.args.n c.requires.0 (small _ c.type_inv.bytes) l.i c.loop-i-test.true l.cursor l.invariant.1)))
+    rw (handle_read c) (turn_handle (records c.args.bytes.now) l.i (omega (arith, connections_long c.args.bytes.now c.args.n c.requires.0 (small _ c.type_inv.bytes), c.loop-i-test.true)) c.requires.1 c.connection_at-c.result (c.connection_at-c.ensures _ (goes_on_lem c.args.bytes.now c.args.n c.requires.0 (small _ c.type_inv.bytes) l.i c.loop-i-test.true l.cursor l.invariant.1)))
 
 pub run_free-requires : goal.run_free-requires
 run_free-requires c =
-    let n = numbers-read (goal.at.run_free-requires c).After-connection_at-c in
+    let n = numbers_read (goal.at.run_free-requires c).After-connection_at-c in
     (within_depth n.deep, omega arith, omega arith, treed (goal.at.run_free-requires c).After-connection_at-c)
 
 pub set_run-requires : goal.set_run-requires
 set_run-requires c =
-    let n = numbers-read (goal.at.set_run-requires c).After-connection_at-c in
+    let n = numbers_read (goal.at.set_run-requires c).After-connection_at-c in
     (within_depth n.deep, omega arith, omega arith, omega arith, treed (goal.at.set_run-requires c).After-connection_at-c)
 
 pub handle_at-h-requires : goal.handle_at-h-requires
 handle_at-h-requires c = room (goal.at.handle_at-h-requires c).In-loop-i
 
 pub offset_bounds-s-h : goal.offset_bounds-s-h
-offset_bounds-s-h c = omega (arith, handle-small (goal.at.offset_bounds-s-h c).After-handle_at-h)
+offset_bounds-s-h c = omega (arith, handle_small (goal.at.offset_bounds-s-h c).After-handle_at-h)
 
 pub bounds-s-h : goal.bounds-s-h
-bounds-s-h c = omega (arith, handle-small (goal.at.bounds-s-h c).After-handle_at-h)
+bounds-s-h c = omega (arith, handle_small (goal.at.bounds-s-h c).After-handle_at-h)
 
 pub next-cursor-requires-in-loop-i : goal.next-cursor-requires-in-loop-i
 next-cursor-requires-in-loop-i c = omega (arith, room (goal.at.next-cursor-requires-in-loop-i c).In-loop-i)
@@ -106,8 +106,8 @@ loop-i-preserved c =
     let l = c.loop-i in (
       omega arith,
       cursor_next c.args.bytes.now c.args.n c.requires.0 (small _ c.type_inv.bytes) l.i c.loop-i-test.true l.cursor l.invariant.1 c.next-cursor-in-loop-i.result c.next-cursor-in-loop-i.ensures,
-      turn_takes (records c.args.bytes.now) l.i (inside (goal.at.loop-i-preserved c).In-loop-i) c.requires.1 c.connection_at-c.result (connection-read (goal.at.loop-i-preserved c).After-connection_at-c)
-          l.s.connections l.s.tree.bytes l.invariant.2 c.set_run.new.tree c.handle_at-h.result (handle-read (goal.at.loop-i-preserved c).After-handle_at-h)
+      turn_takes (records c.args.bytes.now) l.i (inside (goal.at.loop-i-preserved c).In-loop-i) c.requires.1 c.connection_at-c.result (connection_read (goal.at.loop-i-preserved c).After-connection_at-c)
+          l.s.connections l.s.tree.bytes l.invariant.2 c.set_run.new.tree c.handle_at-h.result (handle_read (goal.at.loop-i-preserved c).After-handle_at-h)
           (λ g e. sym c.if-not-run_free.false ∙ c.run_free.ensures g e) c.set_run.ensures,
       l.invariant.3,
     )
@@ -121,5 +121,5 @@ pub returns-then-not-run_free : goal.returns-then-not-run_free
 returns-then-not-run_free c =
     let l = c.loop-i in
     restores_not c.args.bytes.now l.i l.s.connections l.s.tree.bytes l.invariant.2 _ refl refl l.invariant.1 (inside (goal.at.returns-then-not-run_free c).In-loop-i) c.requires.1 refl
-    (turn_clash (records c.args.bytes.now) l.i (inside (goal.at.returns-then-not-run_free c).In-loop-i) c.requires.1 c.connection_at-c.result (connection-read (goal.at.returns-then-not-run_free c).After-connection_at-c)
+    (turn_clash (records c.args.bytes.now) l.i (inside (goal.at.returns-then-not-run_free c).In-loop-i) c.requires.1 c.connection_at-c.result (connection_read (goal.at.returns-then-not-run_free c).After-connection_at-c)
     l.s.connections l.s.tree.bytes l.invariant.2 (λ g e. sym c.if-not-run_free.true ∙ c.run_free.ensures g e))
