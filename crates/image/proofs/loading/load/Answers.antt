@@ -3,7 +3,6 @@ use native.Mathlib.Omega.{arith}
 use Rattle.rules.specs.declared.Frame.{Frame}
 use Rattle.rules.specs.Framing.{Framed}
 use Rattle.frame.specs.Promises.{of_frame, Frames}
-use Rattle.basics.proofs.BytesLaws.{AllBytes}
 use Rattle.restore.specs.LoadSteps.{of_soundness}
 use Rattle.restore.specs.Promises.{records}
 use Rattle.restore.proofs.Calls.{checked_sound, checked_illegal, checked_unsound}

@@ -3,7 +3,6 @@ use Prim.Native.Nat.{◌+◌}
 use native.Mathlib.Omega.{arith}
 use lib.ListN.{length}
 use Rattle.rules.specs.TreeBytes.{tree_bytes}
-use Rattle.basics.proofs.BytesLaws.{AllBytes}
 use Rattle.image.proofs.Loads.{owned_twice_lem, tree_long, tree_last, differs, accepted}
 use Rattle.image.proofs.loading.loaded.Goals as goal
 use Rattle.image.proofs.loading.loaded.Goals.{Else-not-new}

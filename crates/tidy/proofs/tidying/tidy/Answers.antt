@@ -1,6 +1,5 @@
 use borrow.Author.Tests.{not-true, not-false}
-use mathlib.Core.Path.{◌≡◌, subst⁻¹}
-use mathlib.Core.Bool.{true}
+use mathlib.Core.Path.{subst⁻¹}
 use native.Mathlib.Omega.{arith}
 use Rattle.tidy.specs.Promises.{Tidies}
 use Rattle.tidy.proofs.Outcomes.{none_found, found_places, short, room, done}
