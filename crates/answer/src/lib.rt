@@ -2,151 +2,116 @@
 #![tactic(auto)]
 
 ghost use Rattle.std.specs.Prelude.{◌+◌, ◌≤◌, length, ◌≡◌};
-ghost use Rattle.rules.specs.Answers.{ok, message as message_as, of_admission, of_dropping, of_reporting, of_reporting_all, of_ownership, of_distance, of_saving, of_loading, of_tidying, of_reading, of_writing, of_reply};
+ghost use Rattle.rules.specs.Answers.{
+  placed,
+  adjusted,
+  message as message_as,
+  of_admission,
+  of_dropping,
+  of_reporting,
+  of_ownership,
+  of_distance,
+  of_reading,
+  of_reply,
+};
 ghost use Rattle.rules.specs.Messages.{subrate_values, change_values};
 ghost use Rattle.rules.specs.Words.{words_of, longest_answer, longest_message};
 ghost use Rattle.text.specs.Promises.{PutsWithin};
-ghost use Rattle.answer.specs.Promises.{PutsWords, PutsAnswer, SizeFits, WritingFits};
+ghost use Rattle.answer.specs.Promises.{longest_count, PutsWords, PutsCounted, PutsAnswer};
 
-use rules::{
-    Admission, Distance, Dropping, Loading, Message, Ownership, Reading, Reply, Reporting,
-    ReportingAll, Saving, SubrateChange, Subrates, Tidying, Writing,
-};
+use rules::{Adjusted, Message, Placed, Refusal, Reply, SubrateChange, Subrates};
 use text::{put_count, put_refused, put_row, put_spaced, put_word};
+
+// Not by Display and `write!`: their clauses say what is written where it is Ok, and no clause
+// says when that is; these write their bytes always (PutsWords).
 
 // The numbers of a command, and those of an event behind its status.
 fn subrate_values(v: Subrates) -> [u32; 5]
     ensures { result ≡ subrate_values v }
 {
-    [
-        v.min as u32,
-        v.max as u32,
-        v.latency as u32,
-        v.continuation as u32,
-        v.timeout as u32,
-    ]
+    [v.min, v.max, v.latency, v.continuation, v.timeout].map(u32::from)
 }
 
 fn change_values(e: SubrateChange) -> [u32; 5]
     ensures { result ≡ change_values e }
 {
-    [
-        e.handle as u32,
-        e.factor as u32,
-        e.latency as u32,
-        e.continuation as u32,
-        e.timeout as u32,
-    ]
+    [e.handle, e.factor, e.latency, e.continuation, e.timeout].map(u32::from)
 }
 
-fn put_placed(out: &mut [u8], at: usize, factor: u16, anchor: u16, blocks: u16) -> usize
+fn put_placed(out: &mut [u8], at: usize, p: Placed) -> usize
     requires { at + longest_answer ≤ length out.old }
-    ensures { PutsWords out.old at (ok factor anchor blocks) out.new result }
+    ensures { PutsWords out.old at (placed p) out.new result }
 {
     let a = put_word(out, at, b"ok");
-    let b = put_spaced(out, a, factor as u32);
-    let c = put_spaced(out, b, anchor as u32);
-    put_spaced(out, c, blocks as u32)
+    let b = put_spaced(out, a, u32::from(p.factor));
+    let c = put_spaced(out, b, u32::from(p.anchor));
+    put_spaced(out, c, u32::from(p.length))
 }
 
-fn put_admission(out: &mut [u8], at: usize, answer: Admission) -> usize
+fn put_admission(out: &mut [u8], at: usize, answer: Result<Placed, Refusal>) -> usize
     requires { at + longest_answer ≤ length out.old }
     ensures { PutsWords out.old at (of_admission answer) out.new result }
 {
     match answer {
-        Admission::Placed {
-            factor,
-            anchor,
-            length,
-        } => put_placed(out, at, factor, anchor, length),
-        Admission::Refused(r) => put_refused(out, at, r),
+        Ok(p) => put_placed(out, at, p),
+        Err(r) => put_refused(out, at, r),
     }
 }
 
-fn put_dropping(out: &mut [u8], at: usize, answer: Dropping) -> usize
+#[tactic(auto, using(text::proofs::Putting::within_all), unfolding(rules::specs::Words::words_of))]
+fn put_dropping(out: &mut [u8], at: usize, answer: Result<(), Refusal>) -> usize
     requires { at + longest_answer ≤ length out.old }
     ensures { PutsWords out.old at (of_dropping answer) out.new result }
 {
     match answer {
-        Dropping::Done => put_word(out, at, b"ok"),
-        Dropping::Refused(r) => put_refused(out, at, r),
+        Ok(()) => put_word(out, at, b"ok"),
+        Err(r) => put_refused(out, at, r),
     }
 }
 
-fn put_reporting(out: &mut [u8], at: usize, answer: Reporting) -> usize
+#[tactic(auto, unfolding(rules::specs::Words::words_of))]
+fn put_adjusted(out: &mut [u8], at: usize, a: Adjusted) -> usize
+    requires { at + longest_answer ≤ length out.old }
+    ensures { PutsWords out.old at (adjusted a) out.new result }
+{
+    match a {
+        Adjusted::Kept(length) => put_count(out, at, b"kept", u32::from(length)),
+        Adjusted::Grown(length) => put_count(out, at, b"grown", u32::from(length)),
+        Adjusted::Shrunk(length) => put_count(out, at, b"shrunk", u32::from(length)),
+        Adjusted::Tight(length) => put_count(out, at, b"tight", u32::from(length)),
+    }
+}
+
+fn put_reporting(out: &mut [u8], at: usize, answer: Result<Adjusted, Refusal>) -> usize
     requires { at + longest_answer ≤ length out.old }
     ensures { PutsWords out.old at (of_reporting answer) out.new result }
 {
     match answer {
-        Reporting::Kept(length) => put_count(out, at, b"kept", length as u32),
-        Reporting::Grown(length) => put_count(out, at, b"grown", length as u32),
-        Reporting::Shrunk(length) => put_count(out, at, b"shrunk", length as u32),
-        Reporting::Tight(length) => put_count(out, at, b"tight", length as u32),
-        Reporting::Refused(r) => put_refused(out, at, r),
+        Ok(a) => put_adjusted(out, at, a),
+        Err(r) => put_refused(out, at, r),
     }
 }
 
-fn put_ownership(out: &mut [u8], at: usize, answer: Ownership) -> usize
+#[tactic(auto, using(text::proofs::Putting::within_all), unfolding(rules::specs::Words::words_of))]
+fn put_ownership(out: &mut [u8], at: usize, answer: Option<u8>) -> usize
     requires { at + longest_answer ≤ length out.old }
     ensures { PutsWords out.old at (of_ownership answer) out.new result }
 {
     match answer {
-        Ownership::Handle(handle) => put_count(out, at, b"owner", handle as u32),
-        Ownership::Idle => put_word(out, at, b"idle"),
+        Some(handle) => put_count(out, at, b"owner", u32::from(handle)),
+        None => put_word(out, at, b"idle"),
     }
 }
 
-fn put_distance(out: &mut [u8], at: usize, answer: Distance) -> usize
-    requires { at + longest_answer ≤ length out.old }
-    ensures { PutsWords out.old at (of_distance answer) out.new result }
+/// The words of an answer that is a number: its word and the number, or the refusal.
+pub fn put_counted(out: &mut [u8], at: usize, word: &[u8], answer: Result<u32, Refusal>) -> usize
+    requires room { at + longest_answer ≤ length out.old }
+    requires word { length word.now ≤ longest_count }
+    ensures { PutsCounted out.old at word.now answer out.new result }
 {
     match answer {
-        Distance::Slots(n) => put_count(out, at, b"slots", n),
-        Distance::Refused(r) => put_refused(out, at, r),
-    }
-}
-
-/// The words of a save's answer.
-pub fn put_saving(out: &mut [u8], at: usize, answer: Saving) -> usize
-    requires { SizeFits answer × (at + longest_answer ≤ length out.old) }
-    ensures { PutsWords out.old at (of_saving answer) out.new result }
-{
-    match answer {
-        Saving::Size(size) => put_count(out, at, b"saved", size as u32),
-        Saving::Refused(r) => put_refused(out, at, r),
-    }
-}
-
-/// The words of a load's answer.
-pub fn put_loading(out: &mut [u8], at: usize, answer: Loading) -> usize
-    requires { at + longest_answer ≤ length out.old }
-    ensures { PutsWords out.old at (of_loading answer) out.new result }
-{
-    match answer {
-        Loading::Count(n) => put_count(out, at, b"loaded", n as u32),
-        Loading::Refused(r) => put_refused(out, at, r),
-    }
-}
-
-/// The words of a list of reports' answer.
-pub fn put_reporting_all(out: &mut [u8], at: usize, answer: ReportingAll) -> usize
-    requires { at + longest_answer ≤ length out.old }
-    ensures { PutsWords out.old at (of_reporting_all answer) out.new result }
-{
-    match answer {
-        ReportingAll::Answered(n) => put_count(out, at, b"reported", n as u32),
-        ReportingAll::Refused(r) => put_refused(out, at, r),
-    }
-}
-
-/// The words of a tidy's answer.
-pub fn put_tidying(out: &mut [u8], at: usize, answer: Tidying) -> usize
-    requires { at + longest_answer ≤ length out.old }
-    ensures { PutsWords out.old at (of_tidying answer) out.new result }
-{
-    match answer {
-        Tidying::Count(n) => put_count(out, at, b"tidied", n as u32),
-        Tidying::Refused(r) => put_refused(out, at, r),
+        Ok(n) => put_count(out, at, word, n),
+        Err(r) => put_refused(out, at, r),
     }
 }
 
@@ -161,39 +126,29 @@ fn put_message(out: &mut [u8], at: usize, message: Message) -> usize
             put_row(out, a, &subrate_values(v))
         }
         Message::Request(handle, v) => {
-            let a = put_count(out, at, b"request", handle as u32);
+            let a = put_count(out, at, b"request", u32::from(handle));
             put_row(out, a, &subrate_values(v))
         }
         Message::Change(e) => {
-            let a = put_count(out, at, b"change", e.status as u32);
+            let a = put_count(out, at, b"change", u32::from(e.status));
             put_row(out, a, &change_values(e))
         }
     }
 }
 
 /// The words of a reading's answer.
-pub fn put_reading(out: &mut [u8], at: usize, answer: Reading) -> usize
+pub fn put_reading(out: &mut [u8], at: usize, answer: Result<Message, Refusal>) -> usize
     requires { at + longest_message ≤ length out.old }
     ensures { PutsWithin longest_message out.old at (words_of (of_reading answer)) out.new result }
 {
     match answer {
-        Reading::Is(message) => put_message(out, at, message),
-        Reading::Refused(r) => put_refused(out, at, r),
-    }
-}
-
-/// The words of a writing's answer.
-pub fn put_writing(out: &mut [u8], at: usize, answer: Writing) -> usize
-    requires { WritingFits answer × (at + longest_answer ≤ length out.old) }
-    ensures { PutsWords out.old at (of_writing answer) out.new result }
-{
-    match answer {
-        Writing::Size(size) => put_count(out, at, b"wrote", size as u32),
-        Writing::Refused(r) => put_refused(out, at, r),
+        Ok(message) => put_message(out, at, message),
+        Err(r) => put_refused(out, at, r),
     }
 }
 
 // The words of a command's answer.
+#[tactic(auto, unfolding(rules::specs::Words::words_of))]
 fn put_words(out: &mut [u8], at: usize, reply: Reply) -> usize
     requires { at + longest_answer ≤ length out.old }
     ensures { PutsWords out.old at (of_reply reply) out.new result }
@@ -203,7 +158,7 @@ fn put_words(out: &mut [u8], at: usize, reply: Reply) -> usize
         Reply::Dropping(answer) => put_dropping(out, at, answer),
         Reply::Reporting(answer) => put_reporting(out, at, answer),
         Reply::Ownership(answer) => put_ownership(out, at, answer),
-        Reply::Distance(answer) => put_distance(out, at, answer),
+        Reply::Distance(answer) => put_counted(out, at, b"slots", answer),
     }
 }
 

@@ -3,8 +3,8 @@ use mathlib.Core.Path.{◌≡◌, refl, sym, ap, ◌∙◌}
 use mathlib.Core.List.{List, [], ◌∷◌, ◌++◌, append-nil, append_assoc}
 use Prim.Native.Nat.{ℕ, suc, ◌+◌, ◌-◌, ◌<◌, ◌≤◌}
 use native.Mathlib.Omega.{arith}
-use lib.ListN.{length, get_or, drop, set, replicate, length-append, length-drop, length-replicate, replicate-append-replicate, get_or-append}
-use lib.Seq.{drop-cons, drop-length, set_at, get_or-append-add, get_or-drop, sets, sets-eq}
+use lib.ListN.{length, get_or, drop, set, length-append, length-drop, get_or-append}
+use lib.Seq.{drop-cons, set_at, get_or-append-add, get_or-drop, sets, sets-eq}
 use Rattle.rules.specs.Lent.{over}
 
 -- Each entry before the end of the new ones is new;
@@ -49,28 +49,3 @@ over_more new old (x ∷ xs) l =
     ∙ ap (λ (i : ℕ). sets (over one old) i xs) (sym n)
     ∙ over_more one old xs (omega arith)
     ∙ ap (λ (y : List ℕ). over y old) (append_assoc new (x ∷ []) xs)
-
--- ---- one value in each of the first i entries
-module _ (l b : List ℕ) (i v : ℕ) (e : b ≡ over (replicate i v) l) where
-  -- There are as many entries as before;
-  pub filled_length : i ≤ length l → length b ≡ length l
-  filled_length h = ap (λ (x : List ℕ). length x) e ∙ over_length (replicate i v) l (omega (arith, length-replicate {A = ℕ} i v))
-
-  -- it goes into one more;
-  pub filled_next : i < length l → set b i v ≡ over (replicate (i + 1) v) l
-  filled_next h =
-      let n = length-replicate i v in
-      ap (λ (x : List ℕ). set x i v) e
-      ∙ ap (λ (k : ℕ). set (over (replicate i v) l) k v) (sym n)
-      ∙ over_next (replicate i v) l v (omega arith)
-      ∙ ap (λ (x : List ℕ). over x l) (replicate-append-replicate i 1 v)
-
-  -- and in the end it is in all of them.
-  pub filled_all : i ≡ length l → b ≡ replicate (length l) v
-  filled_all q =
-      let all = replicate (length l) v in
-      e
-      ∙ ap (λ (k : ℕ). over (replicate k v) l) q
-      ∙ ap (λ (k : ℕ). all ++ drop k l) (length-replicate (length l) v)
-      ∙ ap (λ (x : List ℕ). all ++ x) (drop-length l)
-      ∙ append-nil all

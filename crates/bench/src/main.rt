@@ -1,34 +1,30 @@
 //! Performs a script as the probe does, each call of the library between two marks: what bench/run counts.
 #![tactic(auto)]
 
-ghost use Rattle.std.specs.Prelude.{◌≡◌, true, ◌+◌, ◌*◌, ◌≤◌, length, take};
+ghost use Rattle.std.specs.Prelude.{◌≡◌, true, ◌*◌, ◌^◌, ◌<◌, ◌≤◌, length, take, IfOk};
 ghost use Rattle.rules.specs.Bytes.{same};
 ghost use Rattle.rules.specs.Text.{text as text_of};
 ghost use Rattle.rules.specs.Good.{Good};
-ghost use Rattle.answer.specs.Promises.{SizeFits};
-ghost use Rattle.lists.specs.Lines.{longest_entry, most_entries, most_moves};
+ghost use Rattle.answer.specs.Promises.{longest_count};
+ghost use Rattle.lists.specs.Lines.{most_entries, most_moves};
 
-use answer::{
-    put_loading, put_reading, put_reply, put_reporting_all, put_saving, put_tidying, put_writing,
-};
+use answer::{put_counted, put_reading, put_reply};
 use hci::{read_message, write_message};
 use image::{load, save};
-use input::{Input, read_all};
+use input::read_all;
 use lists::{
-    Asked, LONGEST_LINE, LONGEST_ROW, MOST_ENTRIES, MOST_MOVES, TidyAsked, asked_of, blank,
-    tidy_asked,
+    Asked, LONGEST_LINE, LONGEST_ROW, MOST_ENTRIES, MOST_MOVES, asked_of, blank, tidy_asked,
 };
 use order::{Order, order_of};
 use questions::{anchor, owner};
 use reports::report_pairs;
 use rules::{
-    Command, LEAST_INTERVAL, LONGEST_ANSWER, LONGEST_MESSAGE, Loading, Message, Reply,
-    ReportingAll, Saving, Schedule, Tidying,
+    Command, LEAST_INTERVAL, LONGEST_ANSWER, LONGEST_MESSAGE, Message, Refusal, Reply, Schedule,
 };
 use schedule::{admit, drop, fresh, report};
 use show::{end, word};
 use talk::{Asked as MessageAsked, asked_of as message_asked};
-use text::{Row, find, opens, put_row, read_row};
+use text::{opens, put_row, read_row, split_line};
 use tidy::tidy;
 
 // The place after `singly`: the word's length.
@@ -39,51 +35,42 @@ fn mark(rt: &impl Print) {
     let _ = rt.write_some(b"");
 }
 
+// What a call answers, made between two marks.
+fn timed<A, F: FnOnce() -> A>(rt: &impl Print, call: F) -> A
+    requires { F.IsAlwaysCallable call }
+    ensures { F.post call result }
+{
+    mark(rt);
+    let answer = call();
+    mark(rt);
+    answer
+}
+
 fn tell(rt: &impl Print, reply: Reply) {
     let mut out = [0u8; LONGEST_ANSWER];
     let count = put_reply(&mut out, 0, reply);
     word(rt, &out[..count]);
 }
 
-fn tell_saving(rt: &impl Print, answer: Saving)
-    requires { SizeFits answer }
+// The line of a number, or of its refusal.
+fn tell_count(rt: &impl Print, name: &[u8], answer: Result<u32, Refusal>)
+    requires { length name.now ≤ longest_count }
 {
     let mut out = [0u8; LONGEST_ANSWER];
-    let count = put_saving(&mut out, 0, answer);
+    let count = put_counted(&mut out, 0, name, answer);
     word(rt, &out[..count]);
     end(rt);
 }
 
-fn tell_loading(rt: &impl Print, answer: Loading) {
-    let mut out = [0u8; LONGEST_ANSWER];
-    let count = put_loading(&mut out, 0, answer);
-    word(rt, &out[..count]);
-    end(rt);
-}
-
-// The list behind an answer's words.
-fn tell_lent(rt: &impl Print, out: &mut [u8], at: usize, list: &[u32])
-    requires { at + longest_entry * length list.now ≤ length out.old }
-{
-    let count = put_row(out, at, list);
-    word(rt, &out[..count]);
-    end(rt);
-}
-
-fn tell_list(rt: &impl Print, answer: ReportingAll, list: &[u32])
-    requires { length list.now ≤ most_entries }
+// The same, and the list behind it.
+fn tell_list(rt: &impl Print, name: &[u8], answer: Result<u32, Refusal>, list: &[u32])
+    requires { (length name.now ≤ longest_count) × (length list.now ≤ most_moves) }
 {
     let mut out = [0u8; LONGEST_LINE];
-    let at = put_reporting_all(&mut out, 0, answer);
-    tell_lent(rt, &mut out, at, list);
-}
-
-fn tell_moves(rt: &impl Print, answer: Tidying, list: &[u32])
-    requires { length list.now ≤ most_moves }
-{
-    let mut out = [0u8; LONGEST_LINE];
-    let at = put_tidying(&mut out, 0, answer);
-    tell_lent(rt, &mut out, at, list);
+    let at = put_counted(&mut out, 0, name, answer);
+    let count = put_row(&mut out, at, list);
+    word(rt, &out[..count]);
+    end(rt);
 }
 
 fn admitted(
@@ -98,39 +85,27 @@ fn admitted(
     requires { Good s }
     ensures { Good result }
 {
-    mark(rt);
-    let done = admit(s, handle, smallest, largest, floor, ceiling);
-    let left = done.schedule;
-    mark(rt);
-    let answer = done.answer;
-    tell(rt, Reply::Admission(answer));
-    left
+    let done = timed(rt, || admit(s, handle, smallest, largest, floor, ceiling));
+    tell(rt, Reply::Admission(done.answer));
+    done.schedule
 }
 
 fn dropped(rt: &impl Print, s: Schedule, handle: u32) -> Schedule
     requires { Good s }
     ensures { Good result }
 {
-    mark(rt);
-    let done = drop(s, handle);
-    let left = done.schedule;
-    mark(rt);
-    let answer = done.answer;
-    tell(rt, Reply::Dropping(answer));
-    left
+    let done = timed(rt, || drop(s, handle));
+    tell(rt, Reply::Dropping(done.answer));
+    done.schedule
 }
 
 fn reported(rt: &impl Print, s: Schedule, handle: u32, sample: u32) -> Schedule
     requires { Good s }
     ensures { Good result }
 {
-    mark(rt);
-    let done = report(s, handle, sample);
-    let left = done.schedule;
-    mark(rt);
-    let answer = done.answer;
-    tell(rt, Reply::Reporting(answer));
-    left
+    let done = timed(rt, || report(s, handle, sample));
+    tell(rt, Reply::Reporting(done.answer));
+    done.schedule
 }
 
 fn listed(rt: &impl Print, s: Schedule, numbers: &[u32], list: &mut [u32]) -> Schedule
@@ -138,13 +113,9 @@ fn listed(rt: &impl Print, s: Schedule, numbers: &[u32], list: &mut [u32]) -> Sc
     ensures { Good result }
 {
     blank(list);
-    mark(rt);
-    let done = report_pairs(s, numbers, list);
-    let left = done.schedule;
-    mark(rt);
-    let answer = done.answer;
-    tell_list(rt, answer, list);
-    left
+    let done = timed(rt, || report_pairs(s, numbers, list));
+    tell_list(rt, b"reported", done.answer.map(u32::from), list);
+    done.schedule
 }
 
 fn tidied(rt: &impl Print, s: Schedule, list: &mut [u32]) -> Schedule
@@ -152,25 +123,21 @@ fn tidied(rt: &impl Print, s: Schedule, list: &mut [u32]) -> Schedule
     ensures { Good result }
 {
     blank(list);
-    mark(rt);
-    let done = tidy(s, list);
-    let left = done.schedule;
-    mark(rt);
-    let answer = done.answer;
-    tell_moves(rt, answer, list);
-    left
+    let done = timed(rt, || tidy(s, list));
+    tell_list(rt, b"tidied", done.answer.map(u32::from), list);
+    done.schedule
 }
 
-// The reports that numbers say, made one by one, each schedule put back: what a list is held against.
+// The reports that numbers say, made one by one, each schedule put back: what a list is held
+// against.
 fn one_by_one(rt: &impl Print, s: Schedule, numbers: &[u32]) -> Schedule
     requires { Good s }
     ensures { Good result }
 {
     mark(rt);
     let mut left = s;
-    for i in 0..numbers.len() / 2 {
-        let done = report(left, numbers[2 * i], numbers[2 * i + 1]);
-        left = done.schedule;
+    for &[handle, sample] in numbers.as_chunks::<2>().0 {
+        left = report(left, handle, sample).schedule;
     }
     mark(rt);
     word(rt, b"singly\n");
@@ -180,47 +147,41 @@ fn one_by_one(rt: &impl Print, s: Schedule, numbers: &[u32]) -> Schedule
 fn owned(rt: &impl Print, s: Schedule, block: u32)
     requires { Good s }
 {
-    mark(rt);
-    let answer = owner(s, block);
-    mark(rt);
+    let answer = timed(rt, || owner(s, block));
     tell(rt, Reply::Ownership(answer));
 }
 
 fn anchored(rt: &impl Print, s: Schedule, handle: u32, block: u32)
     requires { Good s }
 {
-    mark(rt);
-    let answer = anchor(s, handle, block);
-    mark(rt);
+    let answer = timed(rt, || anchor(s, handle, block));
     tell(rt, Reply::Distance(answer));
 }
 
 fn saved(rt: &impl Print, s: Schedule, buffer: &mut [u8])
     requires { Good s }
 {
-    mark(rt);
-    let answer = save(s, buffer);
-    mark(rt);
-    tell_saving(rt, answer);
+    let answer = timed(
+        rt,
+        ||
+            requires { Good s }
+            ensures { IfOk result (λ n. n < 2 ^ 32) }
+        { save(s, buffer) },
+    );
+    tell_count(rt, b"saved", answer.map(|size| size as u32));
 }
 
 fn loaded(rt: &impl Print, s: Schedule, bytes: &[u8]) -> Schedule
     requires { Good s }
     ensures { Good result }
 {
-    mark(rt);
-    let done = load(s, bytes);
-    let left = done.schedule;
-    mark(rt);
-    let answer = done.answer;
-    tell_loading(rt, answer);
-    left
+    let done = timed(rt, || load(s, bytes));
+    tell_count(rt, b"loaded", done.answer.map(u32::from));
+    done.schedule
 }
 
 fn read(rt: &impl Print, bytes: &[u8]) {
-    mark(rt);
-    let answer = read_message(bytes);
-    mark(rt);
+    let answer = timed(rt, || read_message(bytes));
     let mut out = [0u8; LONGEST_MESSAGE];
     let count = put_reading(&mut out, 0, answer);
     word(rt, &out[..count]);
@@ -228,13 +189,13 @@ fn read(rt: &impl Print, bytes: &[u8]) {
 }
 
 fn wrote(rt: &impl Print, message: Message, buffer: &mut [u8]) {
-    mark(rt);
-    let answer = write_message(message, buffer);
-    mark(rt);
-    let mut out = [0u8; LONGEST_ANSWER];
-    let count = put_writing(&mut out, 0, answer);
-    word(rt, &out[..count]);
-    end(rt);
+    let answer = timed(
+        rt,
+        ||
+            ensures { IfOk result (λ n. n < 2 ^ 32) }
+        { write_message(message, buffer) },
+    );
+    tell_count(rt, b"wrote", answer.map(|size| size as u32));
 }
 
 fn obeyed(rt: &impl Print, s: Schedule, command: Command) -> Schedule
@@ -280,20 +241,19 @@ fn perform(rt: &impl Print, s: Schedule, line: &[u8], bytes: &mut [u8]) -> Sched
     ensures { Good result }
 {
     match order_of(line, bytes) {
-        Order::Command(command) => obeyed(rt, s, command),
-        Order::Save => {
+        Some(Order::Command(command)) => obeyed(rt, s, command),
+        Some(Order::Save) => {
             saved(rt, s, bytes);
             s
         }
-        Order::SaveInto(size) => {
-            let n = size as usize;
-            saved(rt, s, &mut bytes[..n]);
+        Some(Order::SaveInto(size)) => {
+            saved(rt, s, &mut bytes[..size as usize]);
             s
         }
-        Order::Load(n) => loaded(rt, s, &bytes[..n]),
-        Order::Fresh => fresh(),
-        Order::State => s,
-        Order::Bad => {
+        Some(Order::Load(n)) => loaded(rt, s, &bytes[..n]),
+        Some(Order::Fresh) => fresh(),
+        Some(Order::State) => s,
+        None => {
             nothing(rt);
             s
         }
@@ -307,8 +267,7 @@ fn perform_list(rt: &impl Print, s: Schedule, line: &[u8]) -> Schedule
 {
     let mut numbers = [0u32; LONGEST_ROW];
     let mut list = [0u32; MOST_ENTRIES];
-    let asked = asked_of(line, &mut numbers);
-    let Asked::Reports(entries, count) = asked else {
+    let Some(Asked { entries, count }) = asked_of(line, &mut numbers) else {
         nothing(rt);
         return s;
     };
@@ -322,8 +281,7 @@ fn perform_tidy(rt: &impl Print, s: Schedule, line: &[u8]) -> Schedule
     ensures { Good result }
 {
     let mut list = [0u32; MOST_MOVES];
-    let asked = tidy_asked(line);
-    let TidyAsked::Lends(n) = asked else {
+    let Some(n) = tidy_asked(line) else {
         nothing(rt);
         return s;
     };
@@ -336,8 +294,7 @@ fn perform_singly(rt: &impl Print, s: Schedule, line: &[u8]) -> Schedule
     ensures { Good result }
 {
     let mut numbers = [0u32; LONGEST_ROW];
-    let read = read_row(line, AFTER_SINGLY, &mut numbers);
-    let Row::Count(count) = read else {
+    let Some(count) = read_row(line, AFTER_SINGLY, &mut numbers) else {
         nothing(rt);
         return s;
     };
@@ -382,21 +339,16 @@ fn perform_all(rt: &impl Print, script: &[u8])
 {
     let mut bytes = [0u8; 32768];
     let mut s = fresh();
-    let mut start = 0;
-    while start < script.len() {
-        let end = find(script, start, b'\n');
-        if end == script.len() {
-            return;
-        }
-        s = perform_line(rt, s, &script[start..end], &mut bytes);
-        start = end + 1;
+    let mut rest = script;
+    while let Some((line, later)) = split_line(rest) {
+        s = perform_line(rt, s, line, &mut bytes);
+        rest = later;
     }
 }
 
 fn main(rt: HostRuntime) {
     let mut buffer = [0u8; 65536];
-    let input = read_all(&mut rt.stdin(), &mut buffer);
-    let Input::Bytes(n) = input else {
+    let Ok(n) = read_all(&mut rt.stdin(), &mut buffer) else {
         return;
     };
     perform_all(&rt, &buffer[..n]);

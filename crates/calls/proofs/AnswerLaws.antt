@@ -1,5 +1,6 @@
 -- Each case of an enum has an answer of its own: what is answered says which case it was.
-use mathlib.Core.Path.{◌≡◌, refl, sym, ap, ◌∙◌}
+use Rattle.std.specs.Prelude.{Option, Some, None, Result, Ok, Err}
+use mathlib.Core.Path.{◌≡◌, refl, sym, ap, ap₂, ◌∙◌}
 use mathlib.Core.Bool.{cond}
 use Prim.Native.Nat.{ℕ, ◌<◌}
 use mathlib.Core.List.{List, [], ◌∷◌}
@@ -8,38 +9,15 @@ use lib.Dec.{eqb, lit<}
 use lib.ListN.{get_or}
 use Rattle.rules.specs.declared.Refusal.{Refusal}
 use Rattle.rules.specs.declared.Refusal.TheVariants.{HandleAbove63, HandleLive, HandleNotLive, IntervalOutside, ShareWrong, NoOpenAnchor, SampleAboveRun, BufferShort, RecordsWrong, NumbersUnsound, BlockOwnedTwice, TreeDiffers, ReportsMany, ListShort, NoInterval, MessageWrong, ValuesForbidden, FactorIllegal, NoAnchorForAll, CeilingAboveHalf}
-use Rattle.rules.specs.declared.Admission.{Admission}
-use Rattle.rules.specs.declared.Admission.TheVariants.{Placed, Refused as AdmissionRefused}
-use Rattle.rules.specs.declared.Dropping.{Dropping}
-use Rattle.rules.specs.declared.Dropping.TheVariants.{Done, Refused as DroppingRefused}
-use Rattle.rules.specs.declared.Reporting.{Reporting}
-use Rattle.rules.specs.declared.Reporting.TheVariants.{Kept, Grown, Shrunk, Tight, Refused as ReportingRefused}
-use Rattle.rules.specs.declared.ReportingAll.{ReportingAll}
-use Rattle.rules.specs.declared.ReportingAll.TheVariants.{Answered, Refused as ReportingAllRefused}
-use Rattle.rules.specs.declared.Ownership.{Ownership}
-use Rattle.rules.specs.declared.Ownership.TheVariants.{Handle, Idle}
-use Rattle.rules.specs.declared.Distance.{Distance}
-use Rattle.rules.specs.declared.Distance.TheVariants.{Slots, Refused as DistanceRefused}
-use Rattle.rules.specs.declared.Saving.{Saving}
-use Rattle.rules.specs.declared.Saving.TheVariants.{Size, Refused as SavingRefused}
-use Rattle.rules.specs.declared.Loading.{Loading}
-use Rattle.rules.specs.declared.Loading.TheVariants.{Count, Refused as LoadingRefused}
+use Rattle.rules.specs.declared.Placed.{Placed}
+use Rattle.rules.specs.declared.Adjusted.{Adjusted}
+use Rattle.rules.specs.declared.Adjusted.TheVariants.{Kept, Grown, Shrunk, Tight}
 use Rattle.rules.specs.declared.Message.{Message}
-use Rattle.rules.specs.declared.Reading.{Reading}
-use Rattle.rules.specs.declared.Reading.TheVariants.{Is, Refused as ReadingRefused}
-use Rattle.rules.specs.declared.Writing.{Writing}
-use Rattle.rules.specs.declared.Writing.TheVariants.{Size as WritingSize, Refused as WritingRefused}
-use Rattle.rules.specs.declared.Tidying.{Tidying}
-use Rattle.rules.specs.declared.Tidying.TheVariants.{Count as TidyingCount, Refused as TidyingRefused}
-use Rattle.rules.specs.declared.Admitted.{Admitted}
-use Rattle.rules.specs.declared.Dropped.{Dropped}
-use Rattle.rules.specs.declared.Reported.{Reported}
-use Rattle.rules.specs.declared.ReportedAll.{ReportedAll}
-use Rattle.rules.specs.declared.Loaded.{Loaded}
-use Rattle.rules.specs.declared.Tidied.{Tidied}
+use Rattle.rules.specs.declared.Schedule.{Schedule}
+use Rattle.rules.specs.declared.Done.{Done}
 use Rattle.rules.specs.Refusals.{number}
 use Rattle.rules.specs.Messages.{values_of}
-use Rattle.rules.specs.Answers.{Answer, Outcome, Listed, refused, ok, dropped, kept, grown, shrunk, tight, owner, idle, slots, saved, loaded, reported, message, wrote, tidied, of_admission, of_dropping, of_reporting, of_reporting_all, of_ownership, of_distance, of_saving, of_loading, of_reading, of_writing, of_tidying, of_admitted, of_dropped, of_reported, of_reported_all, of_loaded, of_tidied}
+use Rattle.rules.specs.Answers.{Answer, Outcome, Listed, without_list, refused, ok, dropped, kept, grown, shrunk, tight, owner, idle, slots, saved, loaded, reported, message, wrote, tidied, answered, placed, adjusted, of_admission, of_dropping, of_reporting, of_ownership, of_reading, outcome, listed}
 use Rattle.calls.proofs.RefusalLaws.{refused_same}
 
 -- A function that can be undone takes no two values to one.
@@ -109,7 +87,7 @@ number_small NoAnchorForAll = lit< tt
 number_small CeilingAboveHalf = lit< tt
 
 -- ---- the answers: a number for each of the sheet's words, and the values beside it
-word : Answer → ℕ
+pub word : Answer → ℕ
 word (refused n) = 0
 word (ok F A L) = 1
 word dropped = 2
@@ -149,165 +127,154 @@ value : Answer → ℕ → ℕ
 unfolding values
 value a i = get_or (values a) i 0
 
--- The case of an enum whose refusal has the word 0, and whose other answer is there.
-abbrev by_word : {E : Type 0} → Answer → E → E → E
-by_word a e other = cond (eqb (word a) 0) e other
-
-admission_of : Answer → Admission
-unfolding word value refusal_of
-admission_of a = by_word a (AdmissionRefused (refusal_of (value a 0))) (Placed (value a 0) (value a 1) (value a 2))
-
-admission_back : (a : Admission) → admission_of (of_admission a) ≡ a
-unfolding admission_of
-admission_back (Placed F A L) = refl
-admission_back (AdmissionRefused r) = ap AdmissionRefused (refusal_back r)
-
-dropping_of : Answer → Dropping
-unfolding word value refusal_of
-dropping_of a = by_word a (DroppingRefused (refusal_of (value a 0))) Done
-
-dropping_back : (a : Dropping) → dropping_of (of_dropping a) ≡ a
-unfolding dropping_of
-dropping_back Done = refl
-dropping_back (DroppingRefused r) = ap DroppingRefused (refusal_back r)
-
-reporting_of : Answer → Reporting
-unfolding word value refusal_of
-reporting_of a =
-    by_word a (ReportingRefused (refusal_of (value a 0)))
-    (cond (eqb (word a) 3) (Kept (value a 0)) (cond (eqb (word a) 4) (Grown (value a 0)) (cond (eqb (word a) 5) (Shrunk (value a 0)) (Tight (value a 0)))))
-
-reporting_back : (a : Reporting) → reporting_of (of_reporting a) ≡ a
-unfolding reporting_of
-reporting_back (Kept L) = refl
-reporting_back (Grown L) = refl
-reporting_back (Shrunk L) = refl
-reporting_back (Tight L) = refl
-reporting_back (ReportingRefused r) = ap ReportingRefused (refusal_back r)
-
-reporting_all_of : Answer → ReportingAll
-unfolding word value refusal_of
-reporting_all_of a = by_word a (ReportingAllRefused (refusal_of (value a 0))) (Answered (value a 0))
-
-reporting_all_back : (a : ReportingAll) → reporting_all_of (of_reporting_all a) ≡ a
-unfolding reporting_all_of
-reporting_all_back (Answered n) = refl
-reporting_all_back (ReportingAllRefused r) = ap ReportingAllRefused (refusal_back r)
-
-ownership_of : Answer → Ownership
-unfolding word value
-ownership_of a = cond (eqb (word a) 7) (Handle (value a 0)) Idle
-
-ownership_back : (a : Ownership) → ownership_of (of_ownership a) ≡ a
-unfolding ownership_of
-ownership_back (Handle h) = refl
-ownership_back Idle = refl
-
-distance_of : Answer → Distance
-unfolding word value refusal_of
-distance_of a = by_word a (DistanceRefused (refusal_of (value a 0))) (Slots (value a 0))
-
-distance_back : (a : Distance) → distance_of (of_distance a) ≡ a
-unfolding distance_of
-distance_back (Slots n) = refl
-distance_back (DistanceRefused r) = ap DistanceRefused (refusal_back r)
-
-saving_of : Answer → Saving
-unfolding word value refusal_of
-saving_of a = by_word a (SavingRefused (refusal_of (value a 0))) (Size (value a 0))
-
-saving_back : (a : Saving) → saving_of (of_saving a) ≡ a
-unfolding saving_of
-saving_back (Size n) = refl
-saving_back (SavingRefused r) = ap SavingRefused (refusal_back r)
-
-loading_of : Answer → Loading
-unfolding word value refusal_of
-loading_of a = by_word a (LoadingRefused (refusal_of (value a 0))) (Count (value a 0))
-
-loading_back : (a : Loading) → loading_of (of_loading a) ≡ a
-unfolding loading_of
-loading_back (Count n) = refl
-loading_back (LoadingRefused r) = ap LoadingRefused (refusal_back r)
-
-writing_of : Answer → Writing
-unfolding word value refusal_of
-writing_of a = by_word a (WritingRefused (refusal_of (value a 0))) (WritingSize (value a 0))
-
-writing_back : (a : Writing) → writing_of (of_writing a) ≡ a
-unfolding writing_of
-writing_back (WritingSize n) = refl
-writing_back (WritingRefused r) = ap WritingRefused (refusal_back r)
-
-tidying_of : Answer → Tidying
-unfolding word value refusal_of
-tidying_of a = by_word a (TidyingRefused (refusal_of (value a 0))) (TidyingCount (value a 0))
-
-tidying_back : (a : Tidying) → tidying_of (of_tidying a) ≡ a
-unfolding tidying_of
-tidying_back (TidyingCount n) = refl
-tidying_back (TidyingRefused r) = ap TidyingRefused (refusal_back r)
-
 -- ---- so what a call's statement determines, it determines whole
-pub ownership_injective : (a b : Ownership) → of_ownership a ≡ of_ownership b → a ≡ b
-ownership_injective a b e = undone of_ownership ownership_of ownership_back e
+-- What a value says is no refusal, and no two values say the same.
+pub record Tells {V : Type 0} (says : V → Answer) : Type 0 where
+  pub accepts : (v : V) → 0 < word (says v)
+  pub one : (v w : V) → says v ≡ says w → v ≡ w
 
-pub reporting_injective : (a b : Reporting) → of_reporting a ≡ of_reporting b → a ≡ b
-reporting_injective a b e = undone of_reporting reporting_of reporting_back e
+pub answered_injective : {V : Type 0} (says : V → Answer) → Tells says → (a b : Result V Refusal) → answered says a ≡ answered says b → a ≡ b
+unfolding word
+answered_injective says t (Ok v) (Ok w) e = ap Ok (t.one v w e)
+answered_injective says t (Ok v) (Err r) e = absurd (omega (arith, t.accepts v, ap word e))
+answered_injective says t (Err r) (Ok v) e = absurd (omega (arith, t.accepts v, ap word e))
+answered_injective says t (Err r) (Err q) e = ap Err (number_injective r q (refused_same e))
 
-pub distance_injective : (a b : Distance) → of_distance a ≡ of_distance b → a ≡ b
-distance_injective a b e = undone of_distance distance_of distance_back e
+-- With the schedule, and with the list that a call filled.
+pub done_injective : {A : Type 0} (says : A → Answer) → ((x y : A) → says x ≡ says y → x ≡ y)
+    → (a b : Done A) → outcome says a ≡ outcome says b → a ≡ b
+done_injective {A = A} says one a b e =
+    ap₂ (λ (x : A) (t : Schedule). record { answer = x; schedule = t })
+    (one a.answer b.answer (ap (λ (o : Outcome). o.answer) e)) (ap (λ (o : Outcome). o.schedule) e)
 
-pub saving_injective : (a b : Saving) → of_saving a ≡ of_saving b → a ≡ b
-saving_injective a b e = undone of_saving saving_of saving_back e
+pub listed_injective : {A : Type 0} (says : A → Answer) → ((x y : A) → says x ≡ says y → x ≡ y)
+    → (a b : Done A) (x y : List ℕ) → listed says a x ≡ listed says b y → (a ≡ b) × (x ≡ y)
+listed_injective says one a b x y e = (
+  done_injective says one a b (ap without_list e),
+  ap (λ (o : Listed). o.list) e,
+)
+
+-- ---- of each answer
+placed_tells : Tells placed
+unfolding word value values
+placed_tells = record {
+  accepts = λ p. lit< tt;
+  one = λ p q e i. record {
+    factor = value (e i) 0;
+    anchor = value (e i) 1;
+    length = value (e i) 2;
+  };
+}
+
+done_tells : Tells {V = Unit} (λ u. dropped)
+unfolding word
+done_tells = record { accepts = λ u. lit< tt; one = λ u v e. refl }
+
+adjusted_accepts : (v : Adjusted) → 0 < word (adjusted v)
+unfolding word
+adjusted_accepts (Kept L) = lit< tt
+adjusted_accepts (Grown L) = lit< tt
+adjusted_accepts (Shrunk L) = lit< tt
+adjusted_accepts (Tight L) = lit< tt
+
+adjusted_of : Answer → Adjusted
+unfolding word value
+adjusted_of a =
+    let L = value a 0 in
+    cond (eqb (word a) 3) (Kept L)
+    (cond (eqb (word a) 4) (Grown L) (cond (eqb (word a) 5) (Shrunk L) (Tight L)))
+
+adjusted_back : (v : Adjusted) → adjusted_of (adjusted v) ≡ v
+unfolding adjusted_of
+adjusted_back (Kept L) = refl
+adjusted_back (Grown L) = refl
+adjusted_back (Shrunk L) = refl
+adjusted_back (Tight L) = refl
+
+pub adjusted_injective : (a b : Adjusted) → adjusted a ≡ adjusted b → a ≡ b
+adjusted_injective a b e = undone adjusted adjusted_of adjusted_back e
+
+adjusted_tells : Tells adjusted
+adjusted_tells = record { accepts = adjusted_accepts; one = adjusted_injective }
 
 -- A message is its own value.
-pub reading_injective : (a b : Reading) → of_reading a ≡ of_reading b → a ≡ b
-reading_injective (Is m) (Is n) e = ap Is (same e)
+message_tells : Tells message
+unfolding word
+message_tells = record { accepts = λ m. lit< tt; one = λ m n e. same e }
   where
     same : {x y : Message} → message x ≡ message y → x ≡ y
     same q = cc
-reading_injective (Is m) (ReadingRefused r) e = let z : ◌≡◌ {A = ℕ} 0 1 = cc in absurd (omega arith)
-reading_injective (ReadingRefused r) (Is m) e = let z : ◌≡◌ {A = ℕ} 0 1 = cc in absurd (omega arith)
-reading_injective (ReadingRefused r) (ReadingRefused t) e = ap ReadingRefused (number_injective r t (refused_same e))
 
-pub writing_injective : (a b : Writing) → of_writing a ≡ of_writing b → a ≡ b
-writing_injective a b e = undone of_writing writing_of writing_back e
+-- What one number says: a count, a size, a distance.
+module _ (says : ℕ → Answer) (accepts : (n : ℕ) → 0 < word (says n)) (back : (n : ℕ) → value (says n) 0 ≡ n) where
+  number_tells : Tells says
+  number_tells = record {
+    accepts = accepts;
+    one = λ m n e. undone says (λ a. value a 0) back e;
+  }
 
-pub admitted_injective : (a b : Admitted) → of_admitted a ≡ of_admitted b → a ≡ b
-admitted_injective a b e =
-    undone of_admitted (λ (o : Outcome). record { answer = admission_of o.answer; schedule = o.schedule })
-    (λ r. ap (λ (x : Admission). record { answer = x; schedule = r.schedule }) (admission_back r.answer)) e
+slots_tells : Tells slots
+unfolding word value values
+slots_tells = number_tells slots (λ n. lit< tt) (λ n. refl)
 
-pub dropped_injective : (a b : Dropped) → of_dropped a ≡ of_dropped b → a ≡ b
-dropped_injective a b e =
-    undone of_dropped (λ (o : Outcome). record { answer = dropping_of o.answer; schedule = o.schedule })
-    (λ r. ap (λ (x : Dropping). record { answer = x; schedule = r.schedule }) (dropping_back r.answer)) e
+saved_tells : Tells saved
+unfolding word value values
+saved_tells = number_tells saved (λ n. lit< tt) (λ n. refl)
 
-pub reported_injective : (a b : Reported) → of_reported a ≡ of_reported b → a ≡ b
-reported_injective a b e =
-    undone of_reported (λ (o : Outcome). record { answer = reporting_of o.answer; schedule = o.schedule })
-    (λ r. ap (λ (x : Reporting). record { answer = x; schedule = r.schedule }) (reporting_back r.answer)) e
+loaded_tells : Tells loaded
+unfolding word value values
+loaded_tells = number_tells loaded (λ n. lit< tt) (λ n. refl)
 
--- With the list that a call filled.
-listed : {R : Type 0} (of : R → List ℕ → Listed) (read : Listed → R) → ((r : R) (l : List ℕ) → (read (of r l) ≡ r) × ((of r l).list ≡ l))
-    → (a b : R) (x y : List ℕ) → of a x ≡ of b y → (a ≡ b) × (x ≡ y)
-listed of read back a b x y e = (
-  sym (back a x).0 ∙ ap read e ∙ (back b y).0,
-  sym (back a x).1 ∙ ap (λ (o : Listed). o.list) e ∙ (back b y).1,
-)
+reported_tells : Tells reported
+unfolding word value values
+reported_tells = number_tells reported (λ n. lit< tt) (λ n. refl)
 
-pub reported_all_injective : (a b : ReportedAll) (x y : List ℕ) → of_reported_all a x ≡ of_reported_all b y → (a ≡ b) × (x ≡ y)
-reported_all_injective =
-    listed of_reported_all (λ o. record { answer = reporting_all_of o.answer; schedule = o.schedule })
-    (λ r l. (ap (λ (z : ReportingAll). record { answer = z; schedule = r.schedule }) (reporting_all_back r.answer), refl))
+wrote_tells : Tells wrote
+unfolding word value values
+wrote_tells = number_tells wrote (λ n. lit< tt) (λ n. refl)
 
-pub tidied_injective : (a b : Tidied) (x y : List ℕ) → of_tidied a x ≡ of_tidied b y → (a ≡ b) × (x ≡ y)
-tidied_injective =
-    listed of_tidied (λ o. record { answer = tidying_of o.answer; schedule = o.schedule })
-    (λ r l. (ap (λ (z : Tidying). record { answer = z; schedule = r.schedule }) (tidying_back r.answer), refl))
+tidied_tells : Tells tidied
+unfolding word value values
+tidied_tells = number_tells tidied (λ n. lit< tt) (λ n. refl)
 
-pub loaded_injective : (a b : Loaded) → of_loaded a ≡ of_loaded b → a ≡ b
-loaded_injective a b e =
-    undone of_loaded (λ (o : Outcome). record { answer = loading_of o.answer; schedule = o.schedule })
-    (λ r. ap (λ (x : Loading). record { answer = x; schedule = r.schedule }) (loading_back r.answer)) e
+owner_in : Answer → Option ℕ
+unfolding word value values
+owner_in a = cond (eqb (word a) 7) (Some (value a 0)) None
+
+owner_back : (a : Option ℕ) → owner_in (of_ownership a) ≡ a
+unfolding owner_in
+owner_back (Some h) = refl
+owner_back None = refl
+
+pub ownership_injective : (a b : Option ℕ) → of_ownership a ≡ of_ownership b → a ≡ b
+ownership_injective a b e = undone of_ownership owner_in owner_back e
+
+pub admission_injective : (a b : Result Placed Refusal) → of_admission a ≡ of_admission b → a ≡ b
+admission_injective = answered_injective placed placed_tells
+
+pub dropping_injective : (a b : Result Unit Refusal) → of_dropping a ≡ of_dropping b → a ≡ b
+dropping_injective = answered_injective (λ _. dropped) done_tells
+
+pub reporting_injective : (a b : Result Adjusted Refusal) → of_reporting a ≡ of_reporting b → a ≡ b
+reporting_injective = answered_injective adjusted adjusted_tells
+
+pub reporting_all_injective : (a b : Result ℕ Refusal) → answered reported a ≡ answered reported b → a ≡ b
+reporting_all_injective = answered_injective reported reported_tells
+
+pub distance_injective : (a b : Result ℕ Refusal) → answered slots a ≡ answered slots b → a ≡ b
+distance_injective = answered_injective slots slots_tells
+
+pub saving_injective : (a b : Result ℕ Refusal) → answered saved a ≡ answered saved b → a ≡ b
+saving_injective = answered_injective saved saved_tells
+
+pub loading_injective : (a b : Result ℕ Refusal) → answered loaded a ≡ answered loaded b → a ≡ b
+loading_injective = answered_injective loaded loaded_tells
+
+pub reading_injective : (a b : Result Message Refusal) → of_reading a ≡ of_reading b → a ≡ b
+reading_injective = answered_injective message message_tells
+
+pub writing_injective : (a b : Result ℕ Refusal) → answered wrote a ≡ answered wrote b → a ≡ b
+writing_injective = answered_injective wrote wrote_tells
+
+pub tidying_injective : (a b : Result ℕ Refusal) → answered tidied a ≡ answered tidied b → a ≡ b
+tidying_injective = answered_injective tidied tidied_tells

@@ -3,6 +3,7 @@ use mathlib.Core.Path.{◌≡◌, refl, sym, ap, ◌∙◌}
 use mathlib.Core.Bool.{Bool, true, false, cond}
 use mathlib.Core.List.{List, [], ◌∷◌, ◌++◌, append-nil}
 use Prim.Native.Nat.{ℕ, suc, ◌+◌, ◌<◌, ◌≤◌}
+use Rattle.std.specs.List.{filter}
 use native.Mathlib.Nat.{add-zero}
 use native.Mathlib.Numerals.{add-one}
 use native.Mathlib.Omega.{arith}
@@ -16,6 +17,17 @@ use Rattle.rules.specs.Handles.{each_live}
 unfoldable pub live_count : List Connection → ℕ
 live_count [] = 0
 live_count (c ∷ cs) = cond c.live 1 0 + live_count cs
+
+-- As many as pass the test.
+pub count_filter : (cs : List Connection) → length (filter (λ (c : Connection). c.live) cs) ≡ live_count cs
+unfolding live_count
+count_filter [] = refl
+count_filter (c ∷ cs) = go c.live (count_filter cs)
+  where
+    go : (v : Bool) → length (filter (λ (d : Connection). d.live) cs) ≡ live_count cs
+        → length (cond v (c ∷ filter (λ (d : Connection). d.live) cs) (filter (λ (d : Connection). d.live) cs)) ≡ cond v 1 0 + live_count cs
+    go true later = omega arith
+    go false later = omega arith
 
 -- At most as many as there are slots.
 pub count_most : (cs : List Connection) → live_count cs ≤ length cs

@@ -5,22 +5,14 @@ ghost use Rattle.std.specs.Prelude.{◌≡◌, ◌+◌, ◌≤◌, length, take,
 ghost use Rattle.std.proofs.lemmas.List.Edits.{sets};
 ghost use Rattle.rules.specs.Bytes.{little, little_number};
 
-fn wide(byte: u8) -> u32
-    ensures { result ≡ byte }
-{
-    byte as u32
-}
-
 /// The number in `width` bytes from `at` on.
 pub fn number(bytes: &[u8], at: usize, width: usize) -> u32
     requires { (width ≤ 4) × (at + width ≤ length bytes.now) }
     ensures { result ≡ little_number (take width (drop at bytes.now)) }
 {
     let mut n: u32 = 0;
-    let mut i = width;
-    while 0 < i {
-        i -= 1;
-        n = n * 256 + wide(bytes[at + i]);
+    for &byte in bytes[at..at + width].iter().rev() {
+        n = n * 256 + u32::from(byte);
     }
     n
 }
@@ -31,8 +23,8 @@ pub fn put_number(buffer: &mut [u8], at: usize, width: usize, n: u32)
     ensures { buffer.new ≡ sets buffer.old at (little width n) }
 {
     let mut rest = n;
-    for i in 0..width {
-        buffer[at + i] = (rest % 256) as u8;
+    for byte in &mut buffer[at..at + width] {
+        *byte = (rest % 256) as u8;
         rest = rest / 256;
     }
 }

@@ -1,4 +1,5 @@
 -- A line carried out.
+use Rattle.std.specs.Prelude.{Option, Some, None}
 use mathlib.Core.Path.{◌≡◌, refl, sym, subst, ap, ◌∙◌}
 use mathlib.Core.List.{List}
 use Prim.Native.Nat.{ℕ, ◌+◌, ◌*◌, ◌≤◌}
@@ -6,9 +7,8 @@ use native.Mathlib.Omega.{arith}
 use lib.ListN.{length}
 use Rattle.rules.specs.declared.Schedule.{Schedule}
 use Rattle.rules.specs.declared.Command.{Command}
-use Rattle.rules.specs.declared.Line.{Line}
-use Rattle.rules.specs.declared.Line.TheVariants.{Says, Bad}
-use Rattle.rules.specs.declared.Obeyed.{Obeyed}
+use Rattle.rules.specs.declared.Reply.{Reply}
+use Rattle.rules.specs.declared.Done.{Done}
 use Rattle.rules.specs.Good.{Good}
 use Rattle.rules.specs.Answers.{of_reply}
 use Rattle.rules.specs.Text.{text}
@@ -21,12 +21,12 @@ use Rattle.command.specs.Promises.{Obeys, Carries}
 use Rattle.answer.specs.Promises.{PutsLine, PutsAnswer}
 
 -- A command is as long as its answer needs.
-pub room_said : (line : List ℕ) (c : Command) → says line ≡ Says c → longest_answer ≤ 4 * (length line + 1)
+pub room_said : (line : List ℕ) (c : Command) → says line ≡ Some c → longest_answer ≤ 4 * (length line + 1)
 room_said line c e = omega (arith, ap (λ (l : List ℕ). length l) (says_only line c e).0, line_length c)
 
 module _ (s : Schedule) (line entry exit : List ℕ) (start next : ℕ) where
   -- What a line prints and leaves, by what it says.
-  carried_as : {l : Line} {p : Printed} {after : Schedule} → says line ≡ l → carried_out s l ≡ p → after ≡ p.schedule → Good after
+  carried_as : {l : Option Command} {p : Printed} {after : Schedule} → says line ≡ l → carried_out s l ≡ p → after ≡ p.schedule → Good after
       → PutsLine entry start p.words exit next → next ≤ start + 4 * (length line + 1) → Carries s line entry start exit (record { schedule = after; at = next })
   carried_as {l} {p} {after} e h q good puts room =
       let same : p ≡ carried_out s (says line) = sym (ap (carried_out s) e ∙ h) in
@@ -38,12 +38,12 @@ module _ (s : Schedule) (line entry exit : List ℕ) (start next : ℕ) where
       }
 
   -- "a bad line changes nothing"
-  pub carried_bad : Good s → says line ≡ Bad → Puts entry start (text "bad\n") exit next → Carries s line entry start exit (record { schedule = s; at = next })
+  pub carried_bad : Good s → says line ≡ None → Puts entry start (text "bad\n") exit next → Carries s line entry start exit (record { schedule = s; at = next })
   unfolding carried_out
   carried_bad good e puts = carried_as e refl refl good puts (omega (arith, puts.ends))
 
   -- A command prints its answer.
-  pub carried_said : (c : Command) (r : Obeyed) → says line ≡ Says c → Obeys s c r → PutsAnswer entry start (of_reply r.reply) exit next
+  pub carried_said : (c : Command) (r : Done Reply) → says line ≡ Some c → Obeys s c r → PutsAnswer entry start (of_reply r.answer) exit next
       → Carries s line entry start exit (record { schedule = r.schedule; at = next })
   unfolding carried_out
   carried_said c r e o puts =

@@ -1,4 +1,5 @@
 -- The laws of the command program: from the lines of its input to those of its output.
+use Rattle.std.specs.Prelude.{Option, Some, None}
 use mathlib.Core.Path.{◌≡◌, refl, ap}
 use mathlib.Core.List.{List, [], ◌∷◌, ◌++◌, append_assoc}
 use Prim.Native.Nat.{ℕ, ◌+◌, ◌<◌, ◌≤◌}
@@ -8,8 +9,6 @@ use borrow.Author.Tests.{lt-ltb, le-ltb}
 use Rattle.rules.specs.declared.Schedule.{Schedule}
 use Rattle.rules.specs.declared.Command.{Command}
 use Rattle.rules.specs.declared.Command.TheVariants.{Admit, AdmitRange, Drop, Report, Owner, Anchor}
-use Rattle.rules.specs.declared.Line.{Line}
-use Rattle.rules.specs.declared.Line.TheVariants.{Says, Bad}
 use Rattle.rules.specs.Good.{Good, fresh}
 use Rattle.rules.specs.declared.Message.TheVariants.{Default, Request, Change}
 use Rattle.rules.specs.Messages.{values_of}
@@ -56,7 +55,7 @@ program_answered input h = rw (le-ltb most_input (length input) h)
 
 -- ---- what a line leaves
 -- A bad line prints `bad` and changes nothing.
-pub carried_out_bad : (s : Schedule) (line : List ℕ) → says line ≡ Bad → carried_out s (says line) ≡ record { words = text "bad"; schedule = s }
+pub carried_out_bad : (s : Schedule) (line : List ℕ) → says line ≡ None → carried_out s (says line) ≡ record { words = text "bad"; schedule = s }
 unfolding carried_out
 carried_out_bad s line e = ap (carried_out s) e
 
@@ -70,10 +69,10 @@ obey_good s (Report handle sample) good = call_good s good (reports handle sampl
 obey_good s (Owner block) good = good
 obey_good s (Anchor handle block) good = good
 
-pub carried_out_good : (s : Schedule) (l : Line) → Good s → Good (carried_out s l).schedule
+pub carried_out_good : (s : Schedule) (l : Option Command) → Good s → Good (carried_out s l).schedule
 unfolding carried_out
-carried_out_good s Bad good = good
-carried_out_good s (Says c) good = obey_good s c good
+carried_out_good s None good = good
+carried_out_good s (Some c) good = obey_good s c good
 
 -- and with a refusal the same schedule.
 pub obey_refused : (s : Schedule) (c : Command) (n : ℕ) → (obey s c).answer ≡ refused n → (obey s c).schedule ≡ s
@@ -121,10 +120,10 @@ words_without (wrote n) = worded (text "wrote") (n ∷ []) refl
 words_without (tidied n) = worded (text "tidied") (n ∷ []) refl
 
 -- and neither has what a line prints.
-pub carried_out_without : (s : Schedule) (l : Line) → Without (byte "\n") (carried_out s l).words
+pub carried_out_without : (s : Schedule) (l : Option Command) → Without (byte "\n") (carried_out s l).words
 unfolding carried_out spaced before
-carried_out_without s Bad = worded (text "bad") [] refl
-carried_out_without s (Says c) = words_without (obey s c).answer
+carried_out_without s None = worded (text "bad") [] refl
+carried_out_without s (Some c) = words_without (obey s c).answer
 
 -- How many lines a text has: each that ends in LF, and a tail of one byte or more.
 unfoldable pub tail_count : List ℕ → ℕ

@@ -1,18 +1,16 @@
 -- What the command program promises.
-use Rattle.std.specs.Prelude.{ℕ, ◌+◌, ◌-◌, ◌*◌, ◌≤◌, ◌≡◌, List, ◌++◌, length, replicate}
+use Rattle.std.specs.Prelude.{ℕ, ◌+◌, ◌-◌, ◌*◌, ◌≤◌, ◌≡◌, List, ◌++◌, length, replicate, Option, Result}
 use Rattle.rules.specs.declared.Schedule.{Schedule}
-use Rattle.rules.specs.declared.Admission.{Admission}
-use Rattle.rules.specs.declared.Dropping.{Dropping}
-use Rattle.rules.specs.declared.Reporting.{Reporting}
-use Rattle.rules.specs.declared.Ownership.{Ownership}
-use Rattle.rules.specs.declared.Distance.{Distance}
+use Rattle.rules.specs.declared.Refusal.{Refusal}
+use Rattle.rules.specs.declared.Placed.{Placed}
+use Rattle.rules.specs.declared.Adjusted.{Adjusted}
 use Rattle.rules.specs.declared.Reply.{Reply}
 use Rattle.rules.specs.declared.Reply.TheVariants.{Admission as ReplyAdmission, Dropping as ReplyDropping, Reporting as ReplyReporting, Ownership as ReplyOwnership, Distance as ReplyDistance}
 use Rattle.rules.specs.declared.Command.{Command}
 use Rattle.rules.specs.declared.Command.TheVariants.{Admit, AdmitRange, Drop, Report, Owner, Anchor}
-use Rattle.rules.specs.declared.Obeyed.{Obeyed}
+use Rattle.rules.specs.declared.Done.{Done}
 use Rattle.rules.specs.Good.{Good}
-use Rattle.rules.specs.Answers.{of_obeyed}
+use Rattle.rules.specs.Answers.{of_reply, outcome}
 use Rattle.rules.specs.Obey.{obey}
 use Rattle.rules.specs.Commands.{says}
 use Rattle.rules.specs.Program.{most_output, carried_out, program}
@@ -23,17 +21,17 @@ use Rattle.command.specs.declared.Output.{Output}
 
 -- The reply is of the command's own kind.
 abbrev pub OwnKind : Command → Reply → Type 0
-OwnKind (Admit handle interval floor ceiling) r = (a : Admission) × (r ≡ ReplyAdmission a)
-OwnKind (AdmitRange handle smallest largest floor ceiling) r = (a : Admission) × (r ≡ ReplyAdmission a)
-OwnKind (Drop handle) r = (a : Dropping) × (r ≡ ReplyDropping a)
-OwnKind (Report handle sample) r = (a : Reporting) × (r ≡ ReplyReporting a)
-OwnKind (Owner block) r = (a : Ownership) × (r ≡ ReplyOwnership a)
-OwnKind (Anchor handle block) r = (a : Distance) × (r ≡ ReplyDistance a)
+OwnKind (Admit handle interval floor ceiling) r = (a : Result Placed Refusal) × (r ≡ ReplyAdmission a)
+OwnKind (AdmitRange handle smallest largest floor ceiling) r = (a : Result Placed Refusal) × (r ≡ ReplyAdmission a)
+OwnKind (Drop handle) r = (a : Result Unit Refusal) × (r ≡ ReplyDropping a)
+OwnKind (Report handle sample) r = (a : Result Adjusted Refusal) × (r ≡ ReplyReporting a)
+OwnKind (Owner block) r = (a : Option ℕ) × (r ≡ ReplyOwnership a)
+OwnKind (Anchor handle block) r = (a : Result ℕ Refusal) × (r ≡ ReplyDistance a)
 
 -- The whole answer and the schedule afterwards are what the rule gives, in a reply of the command's own kind; and the schedule is good again.
-pub record Obeys (s : Schedule) (c : Command) (r : Obeyed) : Type 0 where
-  pub is : of_obeyed r ≡ obey s c
-  pub own : OwnKind c r.reply
+pub record Obeys (s : Schedule) (c : Command) (r : Done Reply) : Type 0 where
+  pub is : outcome of_reply r ≡ obey s c
+  pub own : OwnKind c r.answer
   pub good : Good r.schedule
 
 -- A line is carried out: its words are put, and its schedule is left. They are at most four bytes for each of its own.

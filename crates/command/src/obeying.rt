@@ -1,35 +1,13 @@
 //! The call that a command makes.
 ghost use Rattle.rules.specs.Good.{Good};
-ghost use Rattle.rules.specs.declared.Command.TheVariants.{AdmitRange};
 ghost use Rattle.command.specs.Promises.{Obeys};
 
 use questions::{anchor, owner};
-use rules::{Command, LEAST_INTERVAL, Obeyed, Reply, Schedule};
+use rules::{Command, Done, LEAST_INTERVAL, Reply, Schedule};
 use schedule::{admit, drop, report};
 
-// The one call of both admissions.
-fn admitted(
-    s: Schedule,
-    handle: u32,
-    smallest: u32,
-    largest: u32,
-    floor: u32,
-    ceiling: u32,
-) -> Obeyed
-    requires { Good s }
-    ensures { Obeys s (AdmitRange handle smallest largest floor ceiling) result }
-{
-    let r = admit(s, handle, smallest, largest, floor, ceiling);
-    let answer = r.answer;
-    let schedule = r.schedule;
-    Obeyed {
-        reply: Reply::Admission(answer),
-        schedule,
-    }
-}
-
 /// Makes the call; one interval is a range from the least, and a question leaves the schedule as it is.
-pub fn obey(s: Schedule, command: Command) -> Obeyed
+pub fn obey(s: Schedule, command: Command) -> Done<Reply>
     requires { Good s }
     ensures { Obeys s command result }
 {
@@ -39,39 +17,23 @@ pub fn obey(s: Schedule, command: Command) -> Obeyed
             interval,
             floor,
             ceiling,
-        } => admitted(s, handle, LEAST_INTERVAL, interval, floor, ceiling),
+        } => admit(s, handle, LEAST_INTERVAL, interval, floor, ceiling).map(Reply::Admission),
         Command::AdmitRange {
             handle,
             smallest,
             largest,
             floor,
             ceiling,
-        } => admitted(s, handle, smallest, largest, floor, ceiling),
-        Command::Drop(handle) => {
-            let r = drop(s, handle);
-            let answer = r.answer;
-            let schedule = r.schedule;
-            Obeyed {
-                reply: Reply::Dropping(answer),
-                schedule,
-            }
-        }
-        Command::Report { handle, sample } => {
-            let r = report(s, handle, sample);
-            let answer = r.answer;
-            let schedule = r.schedule;
-            Obeyed {
-                reply: Reply::Reporting(answer),
-                schedule,
-            }
-        }
-        Command::Owner(block) => {
-            let reply = Reply::Ownership(owner(s, block));
-            Obeyed { reply, schedule: s }
-        }
-        Command::Anchor { handle, block } => {
-            let reply = Reply::Distance(anchor(s, handle, block));
-            Obeyed { reply, schedule: s }
-        }
+        } => admit(s, handle, smallest, largest, floor, ceiling).map(Reply::Admission),
+        Command::Drop(handle) => drop(s, handle).map(Reply::Dropping),
+        Command::Report { handle, sample } => report(s, handle, sample).map(Reply::Reporting),
+        Command::Owner(block) => Done {
+            answer: Reply::Ownership(owner(s, block)),
+            schedule: s,
+        },
+        Command::Anchor { handle, block } => Done {
+            answer: Reply::Distance(anchor(s, handle, block)),
+            schedule: s,
+        },
     }
 }

@@ -8,9 +8,9 @@ use crate::obeying::obey;
 use crate::{Carried, Output};
 use answer::put_reply;
 use line::says;
-use rules::{Line, MOST_INPUT, MOST_OUTPUT, Schedule};
+use rules::{MOST_INPUT, MOST_OUTPUT, Schedule};
 use schedule::fresh;
-use text::{find, put_word};
+use text::{put_word, split_line};
 
 // Carries a line out, and writes what it prints.
 fn carry_out(s: Schedule, line: &[u8], out: &mut [u8], at: usize) -> Carried
@@ -18,16 +18,18 @@ fn carry_out(s: Schedule, line: &[u8], out: &mut [u8], at: usize) -> Carried
     ensures { Carries s line.now out.old at out.new result }
 {
     match says(line) {
-        Line::Bad => {
-            let at = put_word(out, at, b"bad\n");
-            Carried { schedule: s, at }
+        None => {
+            Carried {
+                schedule: s,
+                at: put_word(out, at, b"bad\n"),
+            }
         }
-        Line::Says(command) => {
+        Some(command) => {
             let done = obey(s, command);
-            let reply = done.reply;
-            let schedule = done.schedule;
-            let at = put_reply(out, at, reply);
-            Carried { schedule, at }
+            Carried {
+                schedule: done.schedule,
+                at: put_reply(out, at, done.answer),
+            }
         }
     }
 }
@@ -41,19 +43,20 @@ fn answer_all(input: &[u8], out: &mut [u8]) -> usize
         return put_word(out, 0, b"long\n");
     }
     let mut s = fresh();
-    let mut start = 0;
     let mut at = 0;
-    while start < input.len() {
-        let end = find(input, start, b'\n');
-        if end == input.len() {
-            return put_word(out, at, b"bad\n");
-        }
-        let done = carry_out(s, &input[start..end], out, at);
+    let mut rest = input;
+    while let Some((line, later)) = split_line(rest) {
+        let done = carry_out(s, line, out, at);
         s = done.schedule;
         at = done.at;
-        start = end + 1;
+        rest = later;
     }
-    at
+    // a tail is a bad line
+    if rest.is_empty() {
+        at
+    } else {
+        put_word(out, at, b"bad\n")
+    }
 }
 
 /// The command program: what an input prints. Whatever the input is, that fits.

@@ -90,10 +90,6 @@ in_numbers_injective a b p q e = in_parts_injective a b (plain a p ∙ ap no_mes
 pub says_injective : (a b : Answer) (r : Said) → NoMessage a → NoMessage b → InNumbers a r → InNumbers b r → a ≡ b
 says_injective a b r x y p q = in_numbers_injective a b x y (sym p ∙ q)
 
--- What is said of the case that an answer is, is said of the answer.
-pub says_case : {A : Type 0} (of : A → Answer) {a case : A} {r : Said} → a ≡ case → InNumbers (of case) r → InNumbers (of a) r
-says_case of e p = p ∙ ap (λ x. in_numbers (of x)) (sym e)
-
 -- ---- two results that meet a statement are equal, the list and the buffer too
 pub says_unique : (a : Answer) (r t : Said) → InNumbers a r → InNumbers a t → r ≡ t
 says_unique a r t p q = p ∙ sym q

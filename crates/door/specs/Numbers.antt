@@ -5,8 +5,35 @@ use Rattle.rules.specs.declared.Subrates.{Subrates}
 use Rattle.rules.specs.declared.SubrateChange.{SubrateChange}
 use Rattle.rules.specs.declared.Message.{Message}
 use Rattle.rules.specs.declared.Message.TheVariants.{Default, Request, Change}
+use Rattle.door.specs.declared.saying.Kind.{Kind}
+use Rattle.door.specs.declared.saying.Kind.TheVariants.{Refused, Placed, Dropped, Kept, Grown}
+use Rattle.door.specs.declared.saying.Kind.TheVariants.{Shrunk, Tight, Owner, Idle, Slots, Saved, Loaded}
+use Rattle.door.specs.declared.saying.Kind.TheVariants.{Reported, Default as DefaultSubrates}
+use Rattle.door.specs.declared.saying.Kind.TheVariants.{Request as SubrateRequest}
+use Rattle.door.specs.declared.saying.Kind.TheVariants.{Change as SubrateChanged, Wrote, Tidied}
 use Rattle.door.specs.declared.Said.{Said}
 use Rattle.door.specs.declared.Read.{Read}
+
+-- The number of each kind, for ever.
+abbrev pub kind_number : Kind → ℕ
+kind_number Refused = 1
+kind_number Placed = 2
+kind_number Dropped = 3
+kind_number Kept = 4
+kind_number Grown = 5
+kind_number Shrunk = 6
+kind_number Tight = 7
+kind_number Owner = 8
+kind_number Idle = 9
+kind_number Slots = 10
+kind_number Saved = 11
+kind_number Loaded = 12
+kind_number Reported = 13
+kind_number DefaultSubrates = 14
+kind_number SubrateRequest = 15
+kind_number SubrateChanged = 16
+kind_number Wrote = 17
+kind_number Tidied = 18
 
 -- A kind and three values.
 abbrev pub said_as : ℕ → ℕ → ℕ → ℕ → Said

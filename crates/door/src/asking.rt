@@ -5,7 +5,7 @@ ghost use Rattle.rules.specs.Anchor.{anchor as anchor_rule};
 ghost use Rattle.door.specs.Numbers.{InNumbers};
 
 use crate::Said;
-use crate::saying::{distance, ownership};
+use crate::saying::{Kind, owned, refused, say};
 use questions::{anchor, owner};
 use rules::Schedule;
 
@@ -15,7 +15,7 @@ pub extern "C" fn beak_owned(s: Schedule, block: u32) -> Said
     requires { Good s }
     ensures { InNumbers (owner_of s block) result }
 {
-    ownership(owner(s, block))
+    owned(owner(s, block))
 }
 
 /// Anchor.
@@ -24,5 +24,5 @@ pub extern "C" fn beak_anchored(s: Schedule, handle: u32, block: u32) -> Said
     requires { Good s }
     ensures { InNumbers (anchor_rule s handle block) result }
 {
-    distance(anchor(s, handle, block))
+    anchor(s, handle, block).map_or_else(refused, |n| say(Kind::Slots, n))
 }

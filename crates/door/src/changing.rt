@@ -1,5 +1,4 @@
 //! The calls that change a schedule: it comes by value, and goes back beside the answer.
-//! Each has the answer in numbers before it takes the schedule: the other way round the schedule is copied once more.
 ghost use Rattle.rules.specs.Good.{Good};
 ghost use Rattle.rules.specs.Admit.{admit as admit_rule};
 ghost use Rattle.rules.specs.Drop.{drop_handle};
@@ -11,7 +10,7 @@ ghost use Rattle.reports.specs.Pairs.{reports_of};
 ghost use Rattle.door.specs.Promises.{Leaves, Lists};
 
 use crate::Called;
-use crate::saying::{admission, dropping, reporting, reporting_all, tidying};
+use crate::saying::{Kind, adjusted, called, placed, say};
 use reports::report_pairs;
 use rules::Schedule;
 use schedule::{admit, drop, fresh, report};
@@ -38,11 +37,7 @@ pub extern "C" fn beak_admitted(
     requires { Good s }
     ensures { Leaves (admit_rule s handle smallest largest floor ceiling) result }
 {
-    let done = admit(s, handle, smallest, largest, floor, ceiling);
-    let answer = done.answer;
-    let said = admission(answer);
-    let schedule = done.schedule;
-    Called { said, schedule }
+    called(admit(s, handle, smallest, largest, floor, ceiling), placed)
 }
 
 /// Drop.
@@ -51,11 +46,7 @@ pub extern "C" fn beak_dropped(s: Schedule, handle: u32) -> Called
     requires { Good s }
     ensures { Leaves (drop_handle s handle) result }
 {
-    let done = drop(s, handle);
-    let answer = done.answer;
-    let said = dropping(answer);
-    let schedule = done.schedule;
-    Called { said, schedule }
+    called(drop(s, handle), |()| say(Kind::Dropped, 0))
 }
 
 /// Report.
@@ -64,24 +55,20 @@ pub extern "C" fn beak_reported(s: Schedule, handle: u32, sample: u32) -> Called
     requires { Good s }
     ensures { Leaves (report_rule s handle sample) result }
 {
-    let done = report(s, handle, sample);
-    let answer = done.answer;
-    let said = reporting(answer);
-    let schedule = done.schedule;
-    Called { said, schedule }
+    called(report(s, handle, sample), adjusted)
 }
 
-/// The reports that numbers say: handle, sample, handle, sample. A slice of reports would be one more proof by hand.
+/// The reports that numbers say: handle, sample, handle, sample.
+/// A slice of reports would be one more proof by hand.
 #[unsafe(no_mangle)]
 pub extern "C" fn beak_reported_all(s: Schedule, numbers: &[u32], answers: &mut [u32]) -> Called
     requires { Good s }
     ensures { Lists (report_all s (reports_of numbers.now) answers.old) answers.new result }
 {
-    let done = report_pairs(s, numbers, answers);
-    let answer = done.answer;
-    let said = reporting_all(answer);
-    let schedule = done.schedule;
-    Called { said, schedule }
+    called(
+        report_pairs(s, numbers, answers),
+        |n| say(Kind::Reported, u32::from(n)),
+    )
 }
 
 /// Tidy. The moves are numbers too: handle, old anchor, new anchor.
@@ -90,9 +77,5 @@ pub extern "C" fn beak_tidied(s: Schedule, moves: &mut [u32]) -> Called
     requires { Good s }
     ensures { Lists (tidy_rule s moves.old) moves.new result }
 {
-    let done = tidy(s, moves);
-    let answer = done.answer;
-    let said = tidying(answer);
-    let schedule = done.schedule;
-    Called { said, schedule }
+    called(tidy(s, moves), |n| say(Kind::Tidied, u32::from(n)))
 }

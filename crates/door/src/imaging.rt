@@ -4,10 +4,10 @@ ghost use Rattle.rules.specs.Save.{save as save_rule};
 ghost use Rattle.rules.specs.Load.{load as load_rule};
 ghost use Rattle.door.specs.Promises.{Leaves, Writes};
 
-use crate::saying::{loading, refused, saved};
+use crate::saying::{Kind, called, refused, say};
 use crate::{Called, Said};
 use image::{load, save};
-use rules::{Saving, Schedule};
+use rules::Schedule;
 
 /// Save.
 #[unsafe(no_mangle)]
@@ -15,11 +15,7 @@ pub extern "C" fn beak_saved(s: Schedule, buffer: &mut [u8]) -> Said
     requires { Good s }
     ensures { Writes (save_rule s buffer.old) buffer.new result }
 {
-    let answer = save(s, buffer);
-    match answer {
-        Saving::Size(size) => saved(size as u32),
-        Saving::Refused(r) => refused(r),
-    }
+    save(s, buffer).map_or_else(refused, |size| say(Kind::Saved, size as u32))
 }
 
 /// Load.
@@ -28,9 +24,5 @@ pub extern "C" fn beak_loaded(s: Schedule, bytes: &[u8]) -> Called
     requires { Good s }
     ensures { Leaves (load_rule s bytes.now) result }
 {
-    let done = load(s, bytes);
-    let answer = done.answer;
-    let said = loading(answer);
-    let schedule = done.schedule;
-    Called { said, schedule }
+    called(load(s, bytes), |n| say(Kind::Loaded, u32::from(n)))
 }

@@ -1,4 +1,5 @@
-//! The door for C: an export for each public call, with the answer in numbers. `c/beak.h` is the C side of it.
+//! The door for C: an export for each public call, with the answer in numbers.
+//! `c/beak.h` is the C side of it.
 #![tactic(auto)]
 
 mod asking;
@@ -17,7 +18,8 @@ pub use messaging::{
 };
 use rules::{Schedule, SubrateChange, Subrates};
 
-/// An answer in numbers: its kind, and its values in the rule sheet's order, 0 where it has none: specs/Numbers.
+/// An answer in numbers: its kind, and its values in the rule sheet's order,
+/// 0 where it has none: specs/Numbers. The kind is a number here, as C takes it.
 #[repr(C)]
 #[derive(Clone, Copy)]
 pub struct Said {
@@ -35,7 +37,8 @@ pub struct Called {
     pub schedule: Schedule,
 }
 
-/// What was read: the answer in numbers, and the values of the message that it is, zeros where it has none.
+/// What was read: the answer in numbers, and the values of the message that it is,
+/// zeros where it has none.
 #[repr(C)]
 #[derive(Clone, Copy)]
 pub struct Read {

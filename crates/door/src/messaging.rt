@@ -1,4 +1,5 @@
-//! The subrate messages: no schedule is needed. A message's values go by value, each message by an export of its own.
+//! The subrate messages: no schedule is needed. A message's values go by value,
+//! each message by an export of its own.
 ghost use Rattle.std.specs.Prelude.{◌≡◌};
 ghost use Rattle.rules.specs.declared.Message.TheVariants.{Default, Request, Change};
 ghost use Rattle.rules.specs.ReadMessage.{read_message};
@@ -6,10 +7,10 @@ ghost use Rattle.rules.specs.WriteMessage.{write_message};
 ghost use Rattle.door.specs.Numbers.{in_parts};
 ghost use Rattle.door.specs.Promises.{Writes};
 
-use crate::saying::{reading, refused, wrote};
+use crate::saying::{Kind, reading, refused, say};
 use crate::{Read, Said};
 use hci::{read_message, write_message};
-use rules::{Message, SubrateChange, Subrates, Writing};
+use rules::{Message, SubrateChange, Subrates};
 
 /// Reading a message.
 #[unsafe(no_mangle)]
@@ -22,11 +23,7 @@ pub extern "C" fn beak_message_read(bytes: &[u8]) -> Read
 fn written(message: Message, buffer: &mut [u8]) -> Said
     ensures { Writes (write_message message buffer.old) buffer.new result }
 {
-    let answer = write_message(message, buffer);
-    match answer {
-        Writing::Size(size) => wrote(size as u32),
-        Writing::Refused(r) => refused(r),
-    }
+    write_message(message, buffer).map_or_else(refused, |size| say(Kind::Wrote, size as u32))
 }
 
 /// Writing the default-subrate command.

@@ -1,77 +1,44 @@
 //! What each answer is in numbers.
 ghost use Rattle.std.specs.Prelude.{◌≡◌};
+ghost use Rattle.std.specs.Result.{ForOk, MatchResult};
 ghost use Rattle.rules.specs.Refusals.{number};
-ghost use Rattle.rules.specs.Answers.{refused as refused_with, saved as saved_as, wrote as wrote_as, of_admission, of_dropping, of_reporting, of_reporting_all, of_ownership, of_distance, of_loading, of_reading, of_tidying};
-ghost use Rattle.door.specs.Numbers.{said_as, InNumbers, message_parts, in_parts};
+ghost use Rattle.rules.specs.Answers.{refused as refused_with, placed as placed_at};
+ghost use Rattle.rules.specs.Answers.{adjusted as adjusted_to, of_ownership, of_reading};
+ghost use Rattle.door.specs.Numbers.{kind_number, said_as, InNumbers, message_parts, in_parts};
 
-use crate::{Read, Said};
-use rules::{
-    Admission, Distance, Dropping, Loading, Message, Ownership, Reading, Refusal, Reporting,
-    ReportingAll, SubrateChange, Subrates, Tidying,
-};
+use crate::{Called, Read, Said};
+use rules::{Adjusted, Done, Message, Placed, Refusal, SubrateChange, Subrates};
 use text::refusal_number;
 
-// The kinds of an answer, numbered for ever: a later one comes at the end.
-const REFUSED: u32 = 1;
-
-const PLACED: u32 = 2;
-
-const DROPPED: u32 = 3;
-
-const KEPT: u32 = 4;
-
-const GROWN: u32 = 5;
-
-const SHRUNK: u32 = 6;
-
-const TIGHT: u32 = 7;
-
-const OWNER: u32 = 8;
-
-const IDLE: u32 = 9;
-
-const SLOTS: u32 = 10;
-
-const SAVED: u32 = 11;
-
-const LOADED: u32 = 12;
-
-const REPORTED: u32 = 13;
-
-const DEFAULT: u32 = 14;
-
-const REQUEST: u32 = 15;
-
-const CHANGE: u32 = 16;
-
-const WROTE: u32 = 17;
-
-const TIDIED: u32 = 18;
-
-// The values of a message that there are none of.
-const NO_SUBRATES: Subrates = Subrates {
-    min: 0,
-    max: 0,
-    latency: 0,
-    continuation: 0,
-    timeout: 0,
-};
-
-const NO_CHANGE: SubrateChange = SubrateChange {
-    status: 0,
-    handle: 0,
-    factor: 0,
-    latency: 0,
-    continuation: 0,
-    timeout: 0,
-};
+// The kinds of an answer, numbered for ever, as C knows them: a later one comes at the end.
+#[derive(Clone, Copy)]
+pub enum Kind {
+    Refused = 1,
+    Placed = 2,
+    Dropped = 3,
+    Kept = 4,
+    Grown = 5,
+    Shrunk = 6,
+    Tight = 7,
+    Owner = 8,
+    Idle = 9,
+    Slots = 10,
+    Saved = 11,
+    Loaded = 12,
+    Reported = 13,
+    Default = 14,
+    Request = 15,
+    Change = 16,
+    Wrote = 17,
+    Tidied = 18,
+}
 
 // An answer with one value, or with none.
-fn say(kind: u32, first: u32) -> Said
-    ensures { result ≡ said_as kind first 0 0 }
+pub fn say(kind: Kind, first: u32) -> Said
+    ensures { result ≡ said_as (kind_number kind) first 0 0 }
 {
     Said {
-        kind,
+        kind: kind as u32,
         first,
         second: 0,
         third: 0,
@@ -81,97 +48,37 @@ fn say(kind: u32, first: u32) -> Said
 pub fn refused(r: Refusal) -> Said
     ensures { InNumbers (refused_with (number r)) result }
 {
-    say(REFUSED, refusal_number(r))
+    say(Kind::Refused, refusal_number(r))
 }
 
-pub fn admission(answer: Admission) -> Said
-    ensures { InNumbers (of_admission answer) result }
+pub fn placed(p: Placed) -> Said
+    ensures { InNumbers (placed_at p) result }
 {
-    match answer {
-        Admission::Placed {
-            factor,
-            anchor,
-            length,
-        } => Said {
-            kind: PLACED,
-            first: factor as u32,
-            second: anchor as u32,
-            third: length as u32,
-        },
-        Admission::Refused(r) => refused(r),
+    Said {
+        kind: Kind::Placed as u32,
+        first: u32::from(p.factor),
+        second: u32::from(p.anchor),
+        third: u32::from(p.length),
     }
 }
 
-pub fn dropping(answer: Dropping) -> Said
-    ensures { InNumbers (of_dropping answer) result }
+pub fn adjusted(a: Adjusted) -> Said
+    ensures { InNumbers (adjusted_to a) result }
 {
-    match answer {
-        Dropping::Done => say(DROPPED, 0),
-        Dropping::Refused(r) => refused(r),
+    match a {
+        Adjusted::Kept(length) => say(Kind::Kept, u32::from(length)),
+        Adjusted::Grown(length) => say(Kind::Grown, u32::from(length)),
+        Adjusted::Shrunk(length) => say(Kind::Shrunk, u32::from(length)),
+        Adjusted::Tight(length) => say(Kind::Tight, u32::from(length)),
     }
 }
 
-pub fn reporting(answer: Reporting) -> Said
-    ensures { InNumbers (of_reporting answer) result }
-{
-    match answer {
-        Reporting::Kept(length) => say(KEPT, length as u32),
-        Reporting::Grown(length) => say(GROWN, length as u32),
-        Reporting::Shrunk(length) => say(SHRUNK, length as u32),
-        Reporting::Tight(length) => say(TIGHT, length as u32),
-        Reporting::Refused(r) => refused(r),
-    }
-}
-
-pub fn reporting_all(answer: ReportingAll) -> Said
-    ensures { InNumbers (of_reporting_all answer) result }
-{
-    match answer {
-        ReportingAll::Answered(n) => say(REPORTED, n as u32),
-        ReportingAll::Refused(r) => refused(r),
-    }
-}
-
-pub fn tidying(answer: Tidying) -> Said
-    ensures { InNumbers (of_tidying answer) result }
-{
-    match answer {
-        Tidying::Count(n) => say(TIDIED, n as u32),
-        Tidying::Refused(r) => refused(r),
-    }
-}
-
-pub fn ownership(answer: Ownership) -> Said
+pub fn owned(answer: Option<u8>) -> Said
     ensures { InNumbers (of_ownership answer) result }
 {
     match answer {
-        Ownership::Handle(handle) => say(OWNER, handle as u32),
-        Ownership::Idle => say(IDLE, 0),
-    }
-}
-
-pub fn distance(answer: Distance) -> Said
-    ensures { InNumbers (of_distance answer) result }
-{
-    match answer {
-        Distance::Slots(n) => say(SLOTS, n),
-        Distance::Refused(r) => refused(r),
-    }
-}
-
-// A save's size, which fits: an image has 1,290 bytes at most.
-pub fn saved(size: u32) -> Said
-    ensures { InNumbers (saved_as size) result }
-{
-    say(SAVED, size)
-}
-
-pub fn loading(answer: Loading) -> Said
-    ensures { InNumbers (of_loading answer) result }
-{
-    match answer {
-        Loading::Count(n) => say(LOADED, n as u32),
-        Loading::Refused(r) => refused(r),
+        Some(handle) => say(Kind::Owner, u32::from(handle)),
+        None => say(Kind::Idle, 0),
     }
 }
 
@@ -180,43 +87,52 @@ fn message_parts(message: Message) -> Read
 {
     match message {
         Message::Default(subrates) => Read {
-            said: say(DEFAULT, 0),
+            said: say(Kind::Default, 0),
             handle: 0,
             subrates,
-            change: NO_CHANGE,
+            change: SubrateChange::default(),
         },
         Message::Request(handle, subrates) => Read {
-            said: say(REQUEST, 0),
+            said: say(Kind::Request, 0),
             handle,
             subrates,
-            change: NO_CHANGE,
+            change: SubrateChange::default(),
         },
         Message::Change(change) => Read {
-            said: say(CHANGE, 0),
+            said: say(Kind::Change, 0),
             handle: 0,
-            subrates: NO_SUBRATES,
+            subrates: Subrates::default(),
             change,
         },
     }
 }
 
-pub fn reading(answer: Reading) -> Read
+pub fn reading(answer: Result<Message, Refusal>) -> Read
     ensures { result ≡ in_parts (of_reading answer) }
 {
     match answer {
-        Reading::Is(message) => message_parts(message),
-        Reading::Refused(r) => Read {
+        Ok(message) => message_parts(message),
+        Err(r) => Read {
             said: refused(r),
             handle: 0,
-            subrates: NO_SUBRATES,
-            change: NO_CHANGE,
+            subrates: Subrates::default(),
+            change: SubrateChange::default(),
         },
     }
 }
 
-// The size of what was written, which fits: a message has 15 bytes at most.
-pub fn wrote(size: u32) -> Said
-    ensures { InNumbers (wrote_as size) result }
+// What a call has done, with the answer in numbers: what its value says, or the refusal's number.
+// The answer is put into numbers before the schedule is taken:
+// the other way round the schedule is copied once more.
+pub fn called<V, F: FnOnce(V) -> Said>(done: Done<Result<V, Refusal>>, says: F) -> Called
+    requires { ForOk done.answer (F.pre says) }
+    ensures said { MatchResult done.answer (λ v. F.post says v result.said)
+        (λ r. InNumbers (refused_with (number r)) result.said) }
+    ensures schedule { result.schedule ≡ done.schedule }
 {
-    say(WROTE, size)
+    let said = done.answer.map_or_else(refused, says);
+    Called {
+        said,
+        schedule: done.schedule,
+    }
 }

@@ -6,6 +6,8 @@ use mathlib.Core.List.{List, [], ◌∷◌}
 use Prim.Native.Nat.{ℕ, suc, ◌+◌, ◌-◌, ◌<◌, ◌≤◌}
 use native.Mathlib.Decide.{dec_le}
 use native.Mathlib.Omega.{arith}
+use mir.Syntax.{w8}
+use mir.Val.{Fits}
 use lib.ListN.{length, get_or, take, drop, length-drop}
 use lib.Seq.{drop-cons, drop-drop, drop-length}
 use Rattle.rules.specs.Ownership.{handles}
@@ -19,14 +21,6 @@ use Rattle.images.proofs.FormLaws.{headed_exactly}
 use Rattle.images.proofs.FrameLaws.{head_from, are_step, are_short, are_none, are_over, count_first, framed_are, wrong_are, wrong_many}
 use Rattle.frame.specs.Promises.{HeadSays, connections_then}
 
--- A place has one kind and one size.
-pub one_kind : (bytes : List ℕ) (at k s kind size : ℕ) → HeadSays bytes at k s → HeadSays bytes at kind size → (k ≡ kind) × (s ≡ size)
-one_kind bytes at k s kind size p q = (sym p.kind_is ∙ q.kind_is, sym p.size_is ∙ q.size_is)
-
--- A record of the kind and the size that are asked for is passed.
-pub passed : (bytes : List ℕ) (at k s kind size next : ℕ) → HeadSays bytes at k s × (next ≡ at + (4 + s)) → k ≡ kind → s ≡ size → HeadSays bytes at kind size × (next ≡ at + (4 + size))
-passed bytes at k s kind size next p ek es = (record { kind_is = p.0.kind_is ∙ ek; size_is = p.0.size_is ∙ es; fits = omega (arith, p.0.fits) }, omega (arith, p.1))
-
 -- What is asked for after the connections.
 abbrev tree_form : List (Head → Bool)
 tree_form = tree_head ∷ []
@@ -35,7 +29,10 @@ tree_form = tree_head ∷ []
 abbrev pub PassedSoFar : List ℕ → ℕ → ℕ → ℕ → ℕ → Type 0
 PassedSoFar bytes at n i cursor = (later : List (Head → Bool)) → records_are (connections_then n later) (drop at bytes) ≡ records_are (connections_then (n - i) later) (drop cursor bytes)
 
-module _ (bytes : List ℕ) (small : AllBytes bytes) where
+module _ (bytes : List ℕ) (fits : (i : ℕ) → Fits w8 (get_or bytes i 0)) where
+  small : AllBytes bytes
+  small i = (fits i).fits
+
   -- ---- one record
   module _ (at kind size : ℕ) (later : List (Head → Bool)) where
     whole : 4 + (head_from (drop at bytes)).size ≤ length (drop at bytes)

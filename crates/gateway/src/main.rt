@@ -1,14 +1,13 @@
 //! The command program: reads standard input and prints what the library makes of it.
 #![tactic(auto)]
 
-use input::{Input, read_all};
+use input::read_all;
 use rules::MOST_INPUT;
 
 fn main(rt: HostRuntime) {
     // one byte more than the program takes, so that it can tell that there is more
     let mut buffer = [0u8; MOST_INPUT + 1];
-    let input = read_all(&mut rt.stdin(), &mut buffer);
-    let Input::Bytes(n) = input else {
+    let Ok(n) = read_all(&mut rt.stdin(), &mut buffer) else {
         let _ = eprintln!(rt; "gateway: standard input cannot be read");
         return;
     };

@@ -1,15 +1,36 @@
 -- What the tests of a message's values come to.
-use mathlib.Core.Path.{◌≡◌, sym}
-use mathlib.Core.Bool.{true, false}
+use mathlib.Core.Path.{◌≡◌, sym, ◌∙◌}
+use mathlib.Core.Bool.{true, false, true≢false}
 use Prim.Native.Nat.{ℕ, ◌+◌, ◌*◌, ◌<◌, ◌≤◌}
 use lib.Dec.{leb}
 use borrow.Author.Tests.{le-leb, leb-true, lt-leb, eq-eqb, ne_eqb}
+use mathlib.Core.Bool.{Bool, ◌&&◌}
+use Rattle.std.specs.Ordering.{is_le, nat_cmp}
+use Rattle.std.proofs.lemmas.Map.Keys.{le_from_is_le}
+use Rattle.std.proofs.lemmas.Grind.{common_steps}
+use native.Mathlib.Omega.{arith}
 use Rattle.rules.specs.declared.Subrates.{Subrates}
 use Rattle.rules.specs.declared.SubrateChange.{SubrateChange}
 use Rattle.rules.specs.declared.Message.TheVariants.{Request}
 use Rattle.rules.specs.Subrates.{is_subrating, are_subrates, is_change, is_allowed}
-use Rattle.basics.proofs.BoolLaws.{bool_iff, is_false}
+use Rattle.basics.proofs.BoolLaws.{bool_iff, is_false, both}
 use Rattle.messages.proofs.AllowedLaws.{Subrated, subrated_exactly, subrated_ends, Commanded, commanded_exactly, commanded_ends}
+
+-- The test of a range, in numbers.
+is_le_leb : (a b : ℕ) → is_le (nat_cmp a b) ≡ leb a b
+is_le_leb a b = grind (arith, common_steps)
+
+module _ (lo hi x : ℕ) {b : Bool} (is : b ≡ is_le (nat_cmp lo x) && is_le (nat_cmp x hi)) where
+  pub within : b ≡ true → (lo ≤ x) × (x ≤ hi)
+  within e =
+      let p = both _ _ (sym is ∙ e) in
+      (le_from_is_le lo x p.0, le_from_is_le x hi p.1)
+
+  pub outside : b ≡ false → lo ≤ x → x ≤ hi → ⊥
+  outside e from to =
+      let e₁ : leb lo x && leb x hi ≡ false =
+      rw (sym (is_le_leb lo x), sym (is_le_leb x hi), sym is) e in
+      absurd (true≢false (rw (le-leb lo x from, le-leb x hi to) at e₁))
 
 -- The rule over four numbers: a test that fails, and what is left to the last one.
 module _ (F l c t : ℕ) where

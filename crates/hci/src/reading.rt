@@ -1,6 +1,8 @@
 //! Reading: 16, then 17.
 ghost use Rattle.std.specs.Prelude.{◌≡◌, ◌+◌, ◌≤◌, length};
-ghost use Rattle.hci.specs.Promises.{Reads, Finds, five_at, subrates_of};
+ghost use Rattle.rules.specs.Bytes.{number_at};
+ghost use Rattle.rules.specs.Messages.{subrates_at, change_at};
+ghost use Rattle.hci.specs.Promises.{Reads, Finds, five_at};
 
 use crate::ruling::is_allowed;
 use crate::{
@@ -8,13 +10,14 @@ use crate::{
     REQUEST_SIZE,
 };
 use codec::number;
-use rules::{Message, Reading, Refusal, SubrateChange, Subrates};
+use rules::{Message, Refusal, SubrateChange, Subrates};
 
-// The message that bytes are, or none.
-#[derive(Clone, Copy)]
-enum Found {
-    Is(Message),
-    Nothing,
+// The number in the two bytes from a place on.
+fn two_at(bytes: &[u8], at: usize) -> u16
+    requires { at + 2 ≤ length bytes.now }
+    ensures { result ≡ number_at bytes.now at 2 }
+{
+    number(bytes, at, 2) as u16
 }
 
 // The five numbers that bytes have from a place on.
@@ -23,97 +26,63 @@ fn five_at(bytes: &[u8], at: usize) -> Five
     ensures { result ≡ five_at bytes.now at }
 {
     Five {
-        first: number(bytes, at, 2) as u16,
-        top: number(bytes, at + 2, 2) as u16,
-        latency: number(bytes, at + 4, 2) as u16,
-        continuation: number(bytes, at + 6, 2) as u16,
-        timeout: number(bytes, at + 8, 2) as u16,
+        first: two_at(bytes, at),
+        top: two_at(bytes, at + 2),
+        latency: two_at(bytes, at + 4),
+        continuation: two_at(bytes, at + 6),
+        timeout: two_at(bytes, at + 8),
     }
 }
 
-fn subrates_of(f: Five) -> Subrates
-    ensures { result ≡ subrates_of f }
+// A command's values from a place on.
+fn subrates_at(bytes: &[u8], at: usize) -> Subrates
+    requires { at + 10 ≤ length bytes.now }
+    ensures { result ≡ subrates_at bytes.now at }
 {
-    Subrates {
-        min: f.first,
-        max: f.top,
-        latency: f.latency,
-        continuation: f.continuation,
-        timeout: f.timeout,
-    }
+    Subrates::from(five_at(bytes, at))
 }
 
-fn default_in(bytes: &[u8]) -> Found
-    requires { length bytes.now ≡ 13 }
-    ensures { Finds bytes.now result }
+// An event's values from a place on.
+fn change_at(bytes: &[u8], at: usize) -> SubrateChange
+    requires { at + 11 ≤ length bytes.now }
+    ensures { result ≡ change_at bytes.now at }
 {
-    if number(bytes, 0, HEAD_SIZE) != DEFAULT_HEAD {
-        return Found::Nothing;
-    }
-    let f = five_at(bytes, HEAD_SIZE);
-    let subrates = subrates_of(f);
-    Found::Is(Message::Default(subrates))
-}
-
-fn request_in(bytes: &[u8]) -> Found
-    requires { length bytes.now ≡ 15 }
-    ensures { Finds bytes.now result }
-{
-    if number(bytes, 0, HEAD_SIZE) != REQUEST_HEAD {
-        return Found::Nothing;
-    }
-    let handle = number(bytes, HEAD_SIZE, 2) as u16;
-    let f = five_at(bytes, HEAD_SIZE + 2);
-    let subrates = subrates_of(f);
-    Found::Is(Message::Request(handle, subrates))
-}
-
-fn change_in(bytes: &[u8]) -> Found
-    requires { length bytes.now ≡ 14 }
-    ensures { Finds bytes.now result }
-{
-    if number(bytes, 0, HEAD_SIZE) != CHANGE_HEAD {
-        return Found::Nothing;
-    }
-    let status = number(bytes, HEAD_SIZE, 1) as u8;
-    let f = five_at(bytes, HEAD_SIZE + 1);
-    Found::Is(Message::Change(SubrateChange {
-        status,
+    let f = five_at(bytes, at + 1);
+    SubrateChange {
+        status: number(bytes, at, 1) as u8,
         handle: f.first,
         factor: f.top,
         latency: f.latency,
         continuation: f.continuation,
         timeout: f.timeout,
-    }))
+    }
 }
 
-// The sizes differ, so that a size has one head.
-fn message_in(bytes: &[u8]) -> Found
+// The message that bytes are: its size and its head tell which.
+fn message_in(bytes: &[u8]) -> Option<Message>
     ensures { Finds bytes.now result }
 {
-    let size = bytes.len();
-    if size == DEFAULT_SIZE {
-        return default_in(bytes);
+    if bytes.len() < HEAD_SIZE {
+        return None;
     }
-    if size == REQUEST_SIZE {
-        return request_in(bytes);
+    match (bytes.len(), number(bytes, 0, HEAD_SIZE)) {
+        (DEFAULT_SIZE, DEFAULT_HEAD) => Some(Message::Default(subrates_at(bytes, HEAD_SIZE))),
+        (REQUEST_SIZE, REQUEST_HEAD) => Some(Message::Request(
+            two_at(bytes, HEAD_SIZE),
+            subrates_at(bytes, HEAD_SIZE + 2),
+        )),
+        (CHANGE_SIZE, CHANGE_HEAD) => Some(Message::Change(change_at(bytes, HEAD_SIZE))),
+        _ => None,
     }
-    if size == CHANGE_SIZE {
-        return change_in(bytes);
-    }
-    Found::Nothing
 }
 
 /// The message that bytes are.
-pub fn read_message(bytes: &[u8]) -> Reading
+pub fn read_message(bytes: &[u8]) -> Result<Message, Refusal>
     ensures { Reads bytes.now result }
 {
-    let found = message_in(bytes);
-    let Found::Is(message) = found else {
-        return Reading::Refused(Refusal::MessageWrong);
-    };
-    if is_allowed(message) {
-        return Reading::Is(message);
+    let message = message_in(bytes).ok_or(Refusal::MessageWrong)?;
+    if !is_allowed(message) {
+        return Err(Refusal::ValuesForbidden);
     }
-    Reading::Refused(Refusal::ValuesForbidden)
+    Ok(message)
 }

@@ -7,44 +7,29 @@ use rules::{
     SubrateChange, Subrates,
 };
 
-// The rule over a top factor, a latency, a continuation number and a timeout. What it tests implies every other end.
+// The rule over a top factor, a latency, a continuation number and a timeout.
+// What it tests implies every other end.
 fn is_subrating(factor: u16, latency: u16, continuation: u16, timeout: u16) -> bool
     ensures { result ≡ is_subrating factor latency continuation timeout }
 {
-    if timeout < LEAST_TIMEOUT {
-        return false;
-    }
-    if LARGEST_TIMEOUT < timeout {
-        return false;
-    }
-    if factor <= continuation {
-        return false;
-    }
-    (factor as u32) * (latency as u32 + 1) <= LARGEST_PRODUCT
+    (LEAST_TIMEOUT..=LARGEST_TIMEOUT).contains(&timeout)
+        && continuation < factor
+        && u32::from(factor) * (u32::from(latency) + 1) <= LARGEST_PRODUCT
 }
 
 fn are_subrates(v: Subrates) -> bool
     ensures { result ≡ are_subrates v }
 {
-    if v.min < LEAST_FACTOR {
-        return false;
-    }
-    if v.max < v.min {
-        return false;
-    }
-    is_subrating(v.max, v.latency, v.continuation, v.timeout)
+    (LEAST_FACTOR..=v.max).contains(&v.min)
+        && is_subrating(v.max, v.latency, v.continuation, v.timeout)
 }
 
 fn is_change(e: SubrateChange) -> bool
     ensures { result ≡ is_change e }
 {
-    if e.status != 0 {
-        return true;
-    }
-    if LARGEST_HCI_HANDLE < e.handle {
-        return false;
-    }
-    is_subrating(e.factor, e.latency, e.continuation, e.timeout)
+    e.status != 0
+        || e.handle <= LARGEST_HCI_HANDLE
+            && is_subrating(e.factor, e.latency, e.continuation, e.timeout)
 }
 
 pub fn is_allowed(message: Message) -> bool
@@ -52,12 +37,7 @@ pub fn is_allowed(message: Message) -> bool
 {
     match message {
         Message::Default(v) => are_subrates(v),
-        Message::Request(handle, v) => {
-            if LARGEST_HCI_HANDLE < handle {
-                return false;
-            }
-            are_subrates(v)
-        }
+        Message::Request(handle, v) => handle <= LARGEST_HCI_HANDLE && are_subrates(v),
         Message::Change(e) => is_change(e),
     }
 }

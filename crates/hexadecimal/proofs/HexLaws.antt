@@ -1,7 +1,6 @@
 -- The laws of hexadecimal.
 use mathlib.Core.Path.{◌≡◌, refl, sym, ap, ap₂, ◌∙◌}
 use mathlib.Core.Bool.{Bool, true, false, ◌&&◌, cond}
-use mathlib.Core.Logic.{◌⊎◌, inl, inr, ⊎_elim}
 use mathlib.Core.List.{List, [], ◌∷◌, ◌++◌}
 use Prim.Native.Nat.{ℕ, zero, suc, ◌+◌, ◌-◌, ◌*◌, ◌/◌, ◌%◌, ◌<◌, ◌≤◌}
 use native.Mathlib.Numerals.{add-one}
@@ -21,18 +20,6 @@ low_digit d h = sym (ap (λ b. cond b (48 + d) (97 + (d - 10))) (lt-ltb d 10 h))
 
 pub high_digit : (d : ℕ) → 10 ≤ d → 97 + (d - 10) ≡ hex_digit d
 high_digit d h = sym (ap (λ b. cond b (48 + d) (97 + (d - 10))) (le-ltb d 10 h))
-
--- It is 0 to 9 or a to f.
-pub digit_range : (d c : ℕ) → d < 16 → c ≡ hex_digit d → (48 ≤ c × c ≤ 57) ⊎ (97 ≤ c × c ≤ 102)
-digit_range d c h e = go (ltb d 10) refl
-  where
-    go : (b : Bool) → ltb d 10 ≡ b → (48 ≤ c × c ≤ 57) ⊎ (97 ≤ c × c ≤ 102)
-    go true q = let l = ltb-true d 10 q in let f = low_digit d l in inl (omega (arith, e, f), omega (arith, e, f))
-    go false q = let l = ltb-false d 10 q in let f = high_digit d l in inr (omega (arith, e, f), omega (arith, e, f))
-
--- And no other byte is.
-pub no_digit : (c : ℕ) → (48 ≤ c → c ≤ 57 → ⊥) → (97 ≤ c → c ≤ 102 → ⊥) → (d : ℕ) → d < 16 → c ≡ hex_digit d → ⊥
-no_digit c low high d h e = ⊎_elim (λ w. low w.0 w.1) (λ w. high w.0 w.1) (digit_range d c h e)
 
 -- ---- one byte more
 pub hex_snoc : (bs : List ℕ) (b : ℕ) → hex (bs ++ (b ∷ [])) ≡ hex bs ++ (hex_digit (b / 16) ∷ hex_digit (b % 16) ∷ [])

@@ -2,12 +2,14 @@
 use mathlib.Core.Path.{◌≡◌, refl, sym, ap, ap₂, ◌∙◌}
 use mathlib.Core.Bool.{true}
 use mathlib.Core.List.{List, [], ◌∷◌, ◌++◌, append-nil, append_assoc}
-use Prim.Native.Nat.{ℕ, suc, ◌+◌, ◌*◌, ◌/◌, ◌%◌, ◌<◌, ◌≤◌}
+use Prim.Native.Nat.{ℕ, zero, suc, ◌+◌, ◌*◌, ◌/◌, ◌%◌, ◌<◌, ◌≤◌}
+use native.Mathlib.Nat.{add_comm, mul-suc}
 use native.Mathlib.Numerals.{add-one}
 use native.Mathlib.Omega.{arith}
-use lib.ListN.{length, get_or, take, drop, set, length-set, length-drop}
-use lib.Seq.{drop-cons, drop-length, get_or-drop, length-take-le, take-suc-set}
-use Rattle.hexadecimal.specs.declared.Hex.TheVariants.{Bytes}
+use lib.ListN.{length, get_or, take, drop, set, length-set}
+use lib.Seq.{drop-cons, drop-length, get_or-drop, get_or-take, drop-drop, length-take-le, take-suc-set}
+use Rattle.std.specs.Prelude.{Some}
+use Rattle.std.specs.Simd.{first_chunks}
 use Rattle.hexadecimal.specs.Hex.{hex_digit, hex, all_bytes}
 use Rattle.hexadecimal.specs.Promises.{ReadsHex}
 use Rattle.hexadecimal.proofs.HexLaws.{hex_snoc, hex_length, hex_rest, hex_first, all_drop, all_snoc}
@@ -29,6 +31,25 @@ read_none line buffer start h = record { here = h; at_next = omega arith; sized 
 abbrev Unread : List ℕ → ℕ → Type 0
 Unread line start = (bs : List ℕ) → 0 < length bs → all_bytes bs ≡ true → drop start line ≡ hex bs → ⊥
 
+-- No pair at all, or a digit without its second.
+pub wrong_size : (line : List ℕ) (start : ℕ) → ((n : ℕ) → 0 < n → length (drop start line) ≡ 2 * n → ⊥) → Unread line start
+wrong_size line start f bs l a e = f (length bs) l (ap (λ (x : List ℕ). length x) e ∙ hex_length bs)
+
+-- The pair of place i.
+pub pair_at : (n k : ℕ) (xs : List ℕ) (i : ℕ) → i < k → get_or (first_chunks n k xs) i [] ≡ take n (drop (n * i) xs)
+pair_at n zero xs i h = absurd (omega arith)
+pair_at n (suc k) xs zero h = let e : 0 ≡ n * 0 = omega arith in ap (λ (m : ℕ). take n (drop m xs)) e
+pair_at n (suc k) xs (suc i) h = pair_at n k (drop n xs) i (omega arith) ∙ (let e : n + n * i ≡ n * suc i = add_comm n (n * i) ∙ sym (mul-suc n i) in ap (take n) (drop-drop (n * i) n xs ∙ ap (λ (m : ℕ). drop m xs) e))
+
+pub digit_at : (line : List ℕ) (start k i j next : ℕ) → i < k → j < 2 → next ≡ start + 2 * i + j
+    → get_or (get_or (first_chunks 2 k (drop start line)) i []) j 0 ≡ get_or line next 0
+digit_at line start k i j next h l e =
+    ap (λ (x : List ℕ). get_or x j 0) (pair_at 2 k (drop start line) i h)
+    ∙ get_or-take 2 (drop (2 * i) (drop start line)) j 0 l
+    ∙ ap (λ (x : List ℕ). get_or x j 0) (drop-drop (2 * i) start line)
+    ∙ get_or-drop (start + 2 * i) line j 0
+    ∙ ap (λ (m : ℕ). get_or line m 0) (sym e)
+
 module _ {line buffer : List ℕ} {start size next n : ℕ} (r : Read line start size buffer next n) where
   -- What is left are the digits of what is left of the bytes.
   rest : (bs : List ℕ) → drop start line ≡ hex bs → drop next line ≡ hex (drop n bs)
@@ -44,11 +65,7 @@ module _ {line buffer : List ℕ} {start size next n : ℕ} (r : Read line start
     pub wrong_first : ((d : ℕ) → d < 16 → get_or line next 0 ≡ hex_digit d → ⊥) → Unread line start
     wrong_first f bs l a e = let w = first bs a e in f (w.0 / 16) (omega (arith, w.1)) w.2
 
-    -- there is no second,
-    pub wrong_short : length line ≤ next + 1 → Unread line start
-    wrong_short s bs l a e = let w = first bs a e in omega (arith, w.4, length-drop (suc next) line)
-
-    -- or it is no digit.
+    -- or the second is none.
     pub wrong_second : ((d : ℕ) → d < 16 → get_or line (next + 1) 0 ≡ hex_digit d → ⊥) → Unread line start
     wrong_second f bs l a e =
         let w = first bs a e in
@@ -89,12 +106,6 @@ module _ {line buffer : List ℕ} {start size next n : ℕ} (r : Read line start
     whole : drop start line ≡ hex (take n buffer)
     whole = r.digits ∙ ap (λ (x : List ℕ). hex (take n buffer) ++ x) nothing ∙ append-nil (hex (take n buffer))
 
-    -- No pair at all,
-    pub wrong_none : n ≡ 0 → Unread line start
-    wrong_none z bs l a e =
-        let d = ap (λ (x : List ℕ). length x) (sym whole ∙ e) in
-        omega (arith, d, hex_length (take n buffer), hex_length bs, length-take-le n buffer r.within)
-
-    -- or all of them.
-    pub read_all : 0 < n → ReadsHex (drop start line) buffer (Bytes n)
+    -- All of them.
+    pub read_all : 0 < n → ReadsHex (drop start line) buffer (Some n)
     read_all l = (l, r.within, whole, r.bytes)

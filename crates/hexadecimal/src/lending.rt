@@ -13,9 +13,7 @@ pub const MOST_BUFFER: u32 = 2048;
 pub fn blank(bytes: &mut [u8])
     ensures { bytes.new ≡ blank_bytes (length bytes.old) }
 {
-    for i in 0..bytes.len() {
-        bytes[i] = 165;
-    }
+    bytes.fill(165);
 }
 
 /// A space and the bytes of a buffer, if there are any.
@@ -23,7 +21,7 @@ pub fn put_buffer(out: &mut [u8], at: usize, bytes: &[u8]) -> usize
     requires { at + 1 + 2 * length bytes.now ≤ length out.old }
     ensures { PutsWithin (1 + 2 * length bytes.now) out.old at (buffer_words bytes.now) out.new result }
 {
-    if bytes.len() == 0 {
+    if bytes.is_empty() {
         return at;
     }
     let a = put_word(out, at, b" ");

@@ -1,4 +1,5 @@
 -- The command program prints, line by line, what the rule sheet's step answers after the commands said before.
+use Rattle.std.specs.Prelude.{Option, Some, None}
 use mathlib.Core.Path.{◌≡◌, refl, sym, ap, ◌∙◌}
 use mathlib.Core.List.{List, [], ◌∷◌, ◌++◌, append_assoc}
 use Prim.Native.Nat.{ℕ}
@@ -7,8 +8,6 @@ use lib.Seq.{take_at}
 use Rattle.rules.specs.declared.Schedule.{Schedule}
 use Rattle.rules.specs.declared.Command.{Command}
 use Rattle.rules.specs.declared.Command.TheVariants.{Admit, AdmitRange, Drop, Report, Owner, Anchor}
-use Rattle.rules.specs.declared.Line.{Line}
-use Rattle.rules.specs.declared.Line.TheVariants.{Says, Bad}
 use Rattle.rules.specs.Obey.{obey}
 use Rattle.rules.specs.Text.{byte}
 use Rattle.rules.specs.Split.{parted}
@@ -34,10 +33,10 @@ obey_ruled s (Owner block) = refl
 obey_ruled s (Anchor handle block) = refl
 
 -- A line after a history: its words, and the schedule.
-carried_out_told : (h : History) (l : Line) → carried_out (after h) l ≡ record { words = told h l; schedule = after (heard h l) }
+carried_out_told : (h : History) (l : Option Command) → carried_out (after h) l ≡ record { words = told h l; schedule = after (heard h l) }
 unfolding carried_out told after
-carried_out_told h Bad = refl
-carried_out_told h (Says c) = ap (λ (t : Result). record { words = words_of t.answer; schedule = t.schedule }) (sym (obey_ruled (after h) c))
+carried_out_told h None = refl
+carried_out_told h (Some c) = ap (λ (t : Result). record { words = words_of t.answer; schedule = t.schedule }) (sym (obey_ruled (after h) c))
 
 -- The lines of the output are what is told, line by line.
 printed_told : (h : History) (lines : List (List ℕ)) (tail : List ℕ)

@@ -2,25 +2,16 @@
 use mathlib.Core.Path.{◌≡◌, refl, sym, ap, ◌∙◌}
 use mathlib.Core.Bool.{Bool}
 use mathlib.Core.List.{List}
-use mathlib.Core.Option.{Option, none, some}
+use mathlib.Core.Option as maybe
+use Rattle.std.specs.Prelude.{Option, Some, None, Ok, Err, Result as OkOrErr}
 use Prim.Native.Nat.{ℕ, ◌+◌}
 use Rattle.rules.specs.declared.Refusal.{Refusal}
 use Rattle.rules.specs.declared.Schedule.{Schedule}
 use Rattle.rules.specs.declared.Connection.{Connection}
-use Rattle.rules.specs.declared.Admission.TheVariants.{Placed, Refused as AdmissionRefused}
-use Rattle.rules.specs.declared.Dropping.TheVariants.{Done, Refused as DroppingRefused}
-use Rattle.rules.specs.declared.Reporting.{Reporting}
-use Rattle.rules.specs.declared.Reporting.TheVariants.{Kept, Grown, Shrunk, Tight, Refused as ReportingRefused}
-use Rattle.rules.specs.declared.ReportingAll.TheVariants.{Answered, Refused as ReportingAllRefused}
-use Rattle.rules.specs.declared.Ownership.{Ownership}
-use Rattle.rules.specs.declared.Ownership.TheVariants.{Handle, Idle}
-use Rattle.rules.specs.declared.Distance.TheVariants.{Slots, Refused as DistanceRefused}
-use Rattle.rules.specs.declared.Saving.{Saving}
-use Rattle.rules.specs.declared.Saving.TheVariants.{Size, Refused as SavingRefused}
-use Rattle.rules.specs.declared.Loading.TheVariants.{Count, Refused as LoadingRefused}
-use Rattle.rules.specs.declared.Tidying.TheVariants.{Count as TidyingCount, Refused as TidyingRefused}
-use Rattle.rules.specs.Refusals.{Check, number, decided}
-use Rattle.rules.specs.Answers.{Answer, Outcome, Listed, refused, refusing, refusing_list, slots, of_admission, of_dropping, of_reporting, of_reporting_all, of_ownership, of_distance, of_saving, of_loading, of_tidying}
+use Rattle.rules.specs.declared.Adjusted.{Adjusted}
+use Rattle.rules.specs.declared.Adjusted.TheVariants.{Kept, Grown, Shrunk, Tight}
+use Rattle.rules.specs.Refusals.{Check, decided}
+use Rattle.rules.specs.Answers.{Answer, Outcome, Listed, refused, refusing, refusing_list, dropped, slots, saved, loaded, reported, tidied, answered, placed, adjusted, of_ownership}
 use Rattle.rules.specs.Handles.{connection}
 use lib.ListN.{length}
 use Rattle.rules.specs.Ownership.{handles, owns, taken}
@@ -55,12 +46,12 @@ takes_by step =
 
 -- ---- the code
 -- Some value of an answer's type stands for what is decided: for each named refusal, and for what is done.
-module _ {E : Type 0} (of : E → Answer) (no : Refusal → E) (names : (why : Refusal) → of (no why) ≡ refused (number why)) where
+module _ {V : Type 0} (says : V → Answer) where
   abbrev Stands : Answer → Type 0
-  Stands a = (e : E) × (of e ≡ a)
+  Stands a = (e : OkOrErr V Refusal) × (answered says e ≡ a)
 
   stands : (cs : List Check) (done : Answer) → Stands done → Stands (decided cs refused done)
-  stands cs done w = decided_cases Stands cs refused done (λ why. (no why, names why)) (λ p. w)
+  stands cs done w = decided_cases Stands cs refused done (λ why. (Err why, refl)) (λ p. w)
 
   stands_outcome : (cs : List Check) (s : Schedule) (done : Outcome) → Stands done.answer → Stands (decided cs (refusing s) done).answer
   stands_outcome cs s done w =
@@ -78,66 +69,66 @@ module _ {E : Type 0} (of : E → Answer) (no : Refusal → E) (names : (why : R
 abbrev whole : Outcome → Answer → Outcome
 whole o a = record { answer = a; schedule = o.schedule }
 
-abbrev listed : Listed → Answer → Listed
-listed o a = record { answer = a; schedule = o.schedule; list = o.list }
+abbrev with_list : Listed → Answer → Listed
+with_list o a = record { answer = a; schedule = o.schedule; list = o.list }
 
-changing : (L goal : ℕ) (room : Bool) → (e : Reporting) × (of_reporting e ≡ change L goal room)
+changing : (L goal : ℕ) (room : Bool) → (e : OkOrErr Adjusted Refusal) × (answered adjusted e ≡ change L goal room)
 changing L goal room =
-    change_cases L goal room (λ a M. (e : Reporting) × (of_reporting e ≡ a))
-    (λ q. (Kept L, refl)) (λ l. (Shrunk goal, refl)) (λ l q. (Grown (L + 1), refl)) (λ l q. (Tight L, refl))
+    change_cases L goal room (λ a M. (e : OkOrErr Adjusted Refusal) × (answered adjusted e ≡ a))
+    (λ q. (Ok (Kept L), refl)) (λ l. (Ok (Shrunk goal), refl)) (λ l q. (Ok (Grown (L + 1)), refl)) (λ l q. (Ok (Tight L), refl))
 
-reporting : (f : ℕ → Bool) (c : Connection) (sample : ℕ) → (e : Reporting) × (of_reporting e ≡ report_answer f c sample)
+reporting : (f : ℕ → Bool) (c : Connection) (sample : ℕ) → (e : OkOrErr Adjusted Refusal) × (answered adjusted e ≡ report_answer f c sample)
 unfolding report_answer
 reporting f c sample = changing c.length (aim c sample) (room_to_grow f c)
 
-owning : (o : Option ℕ) → (e : Ownership) × (of_ownership e ≡ owner_or o)
-owning none = (Idle, refl)
-owning (some h) = (Handle h, refl)
+owning : (o : maybe.Option ℕ) → (e : Option ℕ) × (of_ownership e ≡ owner_or o)
+owning maybe.none = (None, refl)
+owning (maybe.some h) = (Some h, refl)
 
-saving : (s : Schedule) (buffer : List ℕ) → (e : Saving) × (of_saving e ≡ (save s buffer).answer)
+saving : (s : Schedule) (buffer : List ℕ) → (e : OkOrErr ℕ Refusal) × (answered saved e ≡ (save s buffer).answer)
 unfolding save save_done
 saving s buffer =
-    decided_cases (λ w. (e : Saving) × (of_saving e ≡ w.answer)) (save_checks s buffer) (λ n. record { answer = refused n; buffer = buffer }) (save_done s buffer)
-    (λ why. (SavingRefused why, refl)) (λ p. (Size _, refl))
+    decided_cases (λ w. (e : OkOrErr ℕ Refusal) × (answered saved e ≡ w.answer)) (save_checks s buffer) (λ n. record { answer = refused n; buffer = buffer }) (save_done s buffer)
+    (λ why. (Err why, refl)) (λ p. (Ok _, refl))
 
 -- So each call has a result that meets its promise.
 meets_some : (s : Schedule) → Good s → (call : Call) (lent : Lent) → (t : Result) × Meets s call lent t
 unfolding admit admit_done drop_handle drop_done report report_done report_all reports_done owner_of anchor load load_done tidy tidy_done
 meets_some s good (Admit h lo hi f c) lent =
-    let w = stands_outcome of_admission AdmissionRefused (λ why. refl) (admit_checks s h lo hi f c) s (admit_done s h (k_for lo hi) f c) (Placed _ _ _, refl) in
+    let w = stands_outcome placed (admit_checks s h lo hi f c) s (admit_done s h (k_for lo hi) f c) (Ok (record { factor = _; anchor = _; length = _ }), refl) in
     let o = admit s h lo hi f c in
     (_, (record { answer = w.0; schedule = o.schedule }, record { is = ap (whole o) w.1; good = call_good s good (admits h lo hi f c) }, refl))
 meets_some s good (Drop h) lent =
-    let w = stands_outcome of_dropping DroppingRefused (λ why. refl) (drop_checks s h) s (drop_done s h) (Done, refl) in
+    let w = stands_outcome {V = Unit} (λ u. dropped) (drop_checks s h) s (drop_done s h) (Ok tt, refl) in
     let o = drop_handle s h in
     (_, (record { answer = w.0; schedule = o.schedule }, record { is = ap (whole o) w.1; good = call_good s good (drops h) }, refl))
 meets_some s good (Report h sample) lent =
     let w =
-    stands_outcome of_reporting ReportingRefused (λ why. refl) (report_checks s h sample) s (report_done s h sample)
+    stands_outcome adjusted (report_checks s h sample) s (report_done s h sample)
     (reporting (taken s.connections) (connection s h) sample) in
     let o = report s h sample in
     (_, (record { answer = w.0; schedule = o.schedule }, record { is = ap (whole o) w.1; good = call_good s good (reports h sample) }, refl))
 meets_some s good (Reports xs) lent =
     let checks = reports_checks (length xs) (length lent.list) in
-    let w = stands_listed of_reporting_all ReportingAllRefused (λ why. refl) checks s lent.list (reports_done s xs lent.list) (Answered _, refl) in
+    let w = stands_listed reported checks s lent.list (reports_done s xs lent.list) (Ok _, refl) in
     let o = report_all s xs lent.list in
-    (_, (record { answer = w.0; schedule = o.schedule }, o.list, record { is = ap (listed o) w.1; good = report_all_good s xs lent.list good }, refl))
+    (_, (record { answer = w.0; schedule = o.schedule }, o.list, record { is = ap (with_list o) w.1; good = report_all_good s xs lent.list good }, refl))
 meets_some s good (Owner b) lent = let w = owning (least handles (λ h. owns (connection s h) b)) in (_, (w.0, w.1, refl))
 meets_some s good (Anchor h b) lent =
-    let w = stands of_distance DistanceRefused (λ why. refl) (anchor_checks s h) (slots (slots_to_anchor (connection s h) b)) (Slots _, refl) in
+    let w = stands slots (anchor_checks s h) (slots (slots_to_anchor (connection s h) b)) (Ok _, refl) in
     (_, (w.0, w.1, refl))
 meets_some s good Save lent =
     let w = saving s lent.buffer in
     let v = save s lent.buffer in
     (_, (w.0, v.buffer, ap (λ (a : Answer). record { answer = a; buffer = v.buffer }) w.1, refl))
 meets_some s good (Load bytes) lent =
-    let w = stands_outcome of_loading LoadingRefused (λ why. refl) (load_checks bytes.list) s (load_done bytes.list) (Count _, refl) in
+    let w = stands_outcome loaded (load_checks bytes.list) s (load_done bytes.list) (Ok _, refl) in
     let o = load s bytes.list in
     (_, (record { answer = w.0; schedule = o.schedule }, record { is = ap (whole o) w.1; good = load_good s good bytes.list bytes.small }, refl))
 meets_some s good Tidy lent =
-    let w = stands_listed of_tidying TidyingRefused (λ why. refl) (tidy_checks s.connections lent.list) s lent.list (tidy_done s lent.list) (TidyingCount _, refl) in
+    let w = stands_listed tidied (tidy_checks s.connections lent.list) s lent.list (tidy_done s lent.list) (Ok _, refl) in
     let o = tidy s lent.list in
-    (_, (record { answer = w.0; schedule = o.schedule }, o.list, record { is = ap (listed o) w.1; good = call_good s good (tidies lent.list) }, refl))
+    (_, (record { answer = w.0; schedule = o.schedule }, o.list, record { is = ap (with_list o) w.1; good = call_good s good (tidies lent.list) }, refl))
 
 starts_some : (start : Start) → (s : Schedule) × StartsAs start s
 unfolding start_of

@@ -1,16 +1,11 @@
 -- Runs of the code: a start, then public calls in whichever order, each result meeting that call's own promise.
-use Rattle.std.specs.Prelude.{ℕ, ◌≡◌, List}
+use Rattle.std.specs.Prelude.{ℕ, ◌≡◌, List, Option, Result as OkOrErr}
 use Rattle.rules.specs.declared.Schedule.{Schedule}
-use Rattle.rules.specs.declared.Admitted.{Admitted}
-use Rattle.rules.specs.declared.Dropped.{Dropped}
-use Rattle.rules.specs.declared.Reported.{Reported}
-use Rattle.rules.specs.declared.ReportedAll.{ReportedAll}
-use Rattle.rules.specs.declared.Ownership.{Ownership}
-use Rattle.rules.specs.declared.Distance.{Distance}
-use Rattle.rules.specs.declared.Saving.{Saving}
-use Rattle.rules.specs.declared.Loaded.{Loaded}
-use Rattle.rules.specs.declared.Tidied.{Tidied}
-use Rattle.rules.specs.Answers.{of_admitted, of_dropped, of_reported, of_reported_all, of_ownership, of_distance, of_saving, of_loaded, of_tidied}
+use Rattle.rules.specs.declared.Refusal.{Refusal}
+use Rattle.rules.specs.declared.Placed.{Placed}
+use Rattle.rules.specs.declared.Adjusted.{Adjusted}
+use Rattle.rules.specs.declared.Done.{Done}
+use Rattle.rules.specs.Answers.{of_admission, of_dropping, of_reporting, of_reporting_all, of_ownership, of_distance, of_saving, of_loading, of_tidying, outcome, listed}
 use Rattle.run.specs.Promises.{Starts}
 use Rattle.schedule.specs.Promises.{Admits, Drops, Reports as SingleReports}
 use Rattle.reports.specs.Promises.{ReportsAll}
@@ -29,17 +24,17 @@ StartsAs Fresh s = Starts s
 -- One case for each public call on a schedule: what the code returned meets its promise, and is what is left.
 abbrev pub Meets : Schedule → Call → Lent → Result → Type 0
 Meets s (Admit handle smallest largest floor ceiling) lent t =
-    (r : Admitted) × Admits s handle smallest largest floor ceiling r × (t ≡ beside lent (of_admitted r))
-Meets s (Drop handle) lent t = (r : Dropped) × Drops s handle r × (t ≡ beside lent (of_dropped r))
-Meets s (Report handle sample) lent t = (r : Reported) × SingleReports s handle sample r × (t ≡ beside lent (of_reported r))
+    (r : Done (OkOrErr Placed Refusal)) × Admits s handle smallest largest floor ceiling r × (t ≡ beside lent (outcome of_admission r))
+Meets s (Drop handle) lent t = (r : Done (OkOrErr Unit Refusal)) × Drops s handle r × (t ≡ beside lent (outcome of_dropping r))
+Meets s (Report handle sample) lent t = (r : Done (OkOrErr Adjusted Refusal)) × SingleReports s handle sample r × (t ≡ beside lent (outcome of_reporting r))
 Meets s (Reports reports) lent t =
-    (r : ReportedAll) × (exit : List ℕ) × ReportsAll s reports lent.list exit r × (t ≡ filled lent (of_reported_all r exit))
-Meets s (Owner block) lent t = (r : Ownership) × OwnerSays s block r × (t ≡ asked lent s (of_ownership r))
-Meets s (Anchor handle block) lent t = (r : Distance) × AnchorSays s handle block r × (t ≡ asked lent s (of_distance r))
+    (r : Done (OkOrErr ℕ Refusal)) × (exit : List ℕ) × ReportsAll s reports lent.list exit r × (t ≡ filled lent (listed of_reporting_all r exit))
+Meets s (Owner block) lent t = (r : Option ℕ) × OwnerSays s block r × (t ≡ asked lent s (of_ownership r))
+Meets s (Anchor handle block) lent t = (r : OkOrErr ℕ Refusal) × AnchorSays s handle block r × (t ≡ asked lent s (of_distance r))
 Meets s Save lent t =
-    (r : Saving) × (exit : List ℕ) × Saves s lent.buffer exit r × (t ≡ written lent s (record { answer = of_saving r; buffer = exit }))
-Meets s (Load bytes) lent t = (r : Loaded) × Loads s bytes.list r × (t ≡ beside lent (of_loaded r))
-Meets s Tidy lent t = (r : Tidied) × (exit : List ℕ) × Tidies s lent.list exit r × (t ≡ filled lent (of_tidied r exit))
+    (r : OkOrErr ℕ Refusal) × (exit : List ℕ) × Saves s lent.buffer exit r × (t ≡ written lent s (record { answer = of_saving r; buffer = exit }))
+Meets s (Load bytes) lent t = (r : Done (OkOrErr ℕ Refusal)) × Loads s bytes.list r × (t ≡ beside lent (outcome of_loading r))
+Meets s Tidy lent t = (r : Done (OkOrErr ℕ Refusal)) × (exit : List ℕ) × Tidies s lent.list exit r × (t ≡ filled lent (listed of_tidying r exit))
 
 abbrev pub Coded : System
 Coded (begun start s) = StartsAs start s

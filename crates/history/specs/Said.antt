@@ -1,9 +1,7 @@
 -- The command program's lines, by the same histories.
-use Rattle.std.specs.Prelude.{ℕ, ◌≤◌, ◌≡◌, length, take, List, [], ◌∷◌, ◌++◌}
+use Rattle.std.specs.Prelude.{ℕ, ◌≤◌, ◌≡◌, length, take, List, [], ◌∷◌, ◌++◌, Option, Some, None}
 use Rattle.rules.specs.declared.Command.{Command}
 use Rattle.rules.specs.declared.Command.TheVariants.{Admit as AdmitCommand, AdmitRange as AdmitRangeCommand, Drop as DropCommand, Report as ReportCommand, Owner as OwnerCommand, Anchor as AnchorCommand}
-use Rattle.rules.specs.declared.Line.{Line}
-use Rattle.rules.specs.declared.Line.TheVariants.{Says, Bad}
 use Rattle.rules.specs.Obey.{single_from}
 use Rattle.rules.specs.Text.{byte, text}
 use Rattle.rules.specs.Split.{parted}
@@ -28,9 +26,9 @@ abbrev pub request_of : Command → Request
 request_of c = record { call = call_of c; lent = nothing }
 
 -- The history after a line: one that says a command is in it, and no other.
-abbrev pub heard : History → Line → History
-heard h Bad = h
-heard h (Says c) = next h (request_of c)
+abbrev pub heard : History → Option Command → History
+heard h None = h
+heard h (Some c) = next h (request_of c)
 
 -- And after lines, one after the other.
 unfoldable pub heard_all : History → List (List ℕ) → History
@@ -39,10 +37,10 @@ heard_all h [] = h
 heard_all h (line ∷ lines) = heard_all (heard h (says line)) lines
 
 -- What a line prints after a history: the words of the step's answer, or `bad`.
-unfoldable pub told : History → Line → List ℕ
+unfoldable pub told : History → Option Command → List ℕ
 unfolding after ruled_call words_of
-told h Bad = text "bad"
-told h (Says c) = words_of (ruled (after h) (request_of c)).answer
+told h None = text "bad"
+told h (Some c) = words_of (ruled (after h) (request_of c)).answer
 
 -- One line after the other, each after the commands said before it.
 unfoldable pub told_all : History → List (List ℕ) → List (List ℕ)

@@ -1,5 +1,4 @@
 -- What the functions' proofs cite, and the laws of the calls.
 mod Puts
-mod Ends
 mod Loads
 pub mod Calls

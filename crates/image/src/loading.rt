@@ -1,75 +1,37 @@
 //! Load: checks 9, 10, 18, 11, 12, each over the whole image before the next.
-ghost use Rattle.std.specs.Prelude.{◌≡◌, true, ◌+◌, length, take, drop};
-ghost use Rattle.rules.specs.TreeBytes.{tree_bytes};
-ghost use Rattle.rules.specs.Bytes.{same};
-ghost use Rattle.rules.specs.Ownership.{largest_k};
 ghost use Rattle.rules.specs.Good.{Good};
-ghost use Rattle.rules.specs.Framing.{Framed};
-ghost use Rattle.rules.specs.Load.{records_within};
-ghost use Rattle.restore.specs.Promises.{records};
-ghost use Rattle.image.specs.Promises.{Loads};
+ghost use Rattle.image.specs.Promises.{ReadsImage, Loads};
 
 use frame::framed;
 use restore::{check_records, restore};
-use rules::{Frame, HEADER_SIZE, Loaded, Loading, Refusal, Schedule, Soundness, TREE_BYTES};
+use rules::{Done, HEADER_SIZE, Refusal, Schedule};
 
-// Whether the last bytes of the image are the tree's; all are compared, which a machine does many at a time.
-fn ends_with(bytes: &[u8], at: usize, tree: &[u8; TREE_BYTES]) -> bool
-    requires { (at + tree_bytes ≡ length bytes.now) × (length tree.now ≡ tree_bytes) }
-    ensures { result ≡ same (take tree_bytes (drop at bytes.now)) tree.now }
+// How many connections the bytes are an image of, and their schedule.
+fn read_image(bytes: &[u8]) -> Result<(u8, Schedule), Refusal>
+    ensures { ReadsImage bytes.now result }
 {
-    let mut same = true;
-    for i in 0..TREE_BYTES {
-        same = same & (bytes[at + i] == tree[i]);
+    let n = framed(bytes)?;
+    check_records(bytes, n as usize)?;
+    let new = restore(bytes, n as usize)?;
+    if bytes[new.end + HEADER_SIZE..] != new.schedule.tree.bytes[..] {
+        return Err(Refusal::TreeDiffers);
     }
-    same
-}
-
-// Checks 11 and 12, where those before them have passed.
-fn loaded(s: Schedule, bytes: &[u8], n: u8) -> Loaded
-    requires { Good s × Framed bytes.now n × (records_within largest_k (records bytes.now) ≡ true) }
-    ensures { Loads s bytes.now result }
-{
-    let new = restore(bytes, n as usize);
-    if !new.apart {
-        return Loaded {
-            answer: Loading::Refused(Refusal::BlockOwnedTwice),
-            schedule: s,
-        };
-    }
-    if !ends_with(bytes, new.end + HEADER_SIZE, &new.schedule.tree.bytes) {
-        return Loaded {
-            answer: Loading::Refused(Refusal::TreeDiffers),
-            schedule: s,
-        };
-    }
-    Loaded {
-        answer: Loading::Count(n),
-        schedule: new.schedule,
-    }
+    Ok((n, new.schedule))
 }
 
 /// The schedule of an image, in place of the old one, and how many connections it has.
-pub fn load(s: Schedule, bytes: &[u8]) -> Loaded
+pub fn load(s: Schedule, bytes: &[u8]) -> Done<Result<u8, Refusal>>
     requires { Good s }
     ensures { Loads s bytes.now result }
 {
-    let frame = framed(bytes);
-    let Frame::Counts(n) = frame else {
-        return Loaded {
-            answer: Loading::Refused(Refusal::RecordsWrong),
-            schedule: s,
-        };
-    };
-    match check_records(bytes, n as usize) {
-        Soundness::Unsound => Loaded {
-            answer: Loading::Refused(Refusal::NumbersUnsound),
+    match read_image(bytes) {
+        Ok((n, schedule)) => Done {
+            answer: Ok(n),
+            schedule,
+        },
+        Err(why) => Done {
+            answer: Err(why),
             schedule: s,
         },
-        Soundness::Illegal => Loaded {
-            answer: Loading::Refused(Refusal::FactorIllegal),
-            schedule: s,
-        },
-        Soundness::Sound => loaded(s, bytes, n),
     }
 }

@@ -8,14 +8,7 @@ ghost use Rattle.rules.specs.Form.{connection_size};
 ghost use Rattle.rules.specs.Image.{connection_piece};
 
 use codec::put_number;
-use rules::{CONNECTION_KIND, CONNECTION_SIZE, COUNT_SIZE, Connection, HEADER_SIZE, TREE_SIZE};
-
-// The bytes of each record: its header and its payload.
-pub const COUNT_RECORD: usize = HEADER_SIZE + COUNT_SIZE as usize;
-
-pub const CONNECTION_RECORD: usize = HEADER_SIZE + CONNECTION_SIZE as usize;
-
-pub const TREE_RECORD: usize = HEADER_SIZE + TREE_SIZE as usize;
+use rules::{CONNECTION_KIND, CONNECTION_SIZE, Connection, HEADER_SIZE};
 
 // The share's numbers stand after the header and the run's six bytes.
 const SHARE_PLACE: usize = HEADER_SIZE + 6;

@@ -1,31 +1,23 @@
 //! Standard input, read to its end.
 #![tactic(auto)]
 
-ghost use Rattle.std.specs.Prelude.{length};
-ghost use Rattle.input.specs.Promises.{Holds};
+ghost use Rattle.std.specs.Prelude.{◌≤◌, length, IfOk};
 
+use std::io;
 use std::io::Read;
 
-/// How many bytes were read; or the reader cannot be read.
-#[derive(Clone, Copy)]
-pub enum Input {
-    Bytes(usize),
-    Unreadable,
-}
-
-/// Reads until the buffer is full or the reader ends.
-pub fn read_all(reader: &mut impl Read, buffer: &mut [u8]) -> Input
-    ensures { Holds (length buffer.new) result }
+/// Reads until the buffer is full or the reader ends, and counts the bytes.
+pub fn read_all(reader: &mut impl Read, buffer: &mut [u8]) -> io::Result<usize>
+    ensures { IfOk result (λ n. n ≤ length buffer.new) }
 {
     let mut n: usize = 0;
+    // n grows by what a read gives: no iterator counts that
     while n < buffer.len() {
-        let Ok(more) = reader.read(&mut buffer[n..]) else {
-            return Input::Unreadable;
-        };
+        let more = reader.read(&mut buffer[n..])?;
         if more == 0 {
-            return Input::Bytes(n);
+            break;
         }
         n += more;
     }
-    Input::Bytes(n)
+    Ok(n)
 }

@@ -1,34 +1,38 @@
 -- What a line asks for, by the row behind its word; and what it then prints.
-use mathlib.Core.Path.{◌≡◌, sym, ap, ap₂, subst, subst⁻¹, ◌∙◌}
+use mathlib.Core.Path.{◌≡◌, refl, sym, ap, ap₂, subst, subst⁻¹, ◌∙◌}
 use mathlib.Core.Bool.{true}
 use mathlib.Core.Logic.{◌≢◌}
 use mathlib.Core.List.{List, [], ◌∷◌, ◌++◌}
 use Prim.Native.Nat.{ℕ, zero, suc, ◌+◌, ◌-◌, ◌%◌, ◌≤◌}
 use native.Mathlib.Omega.{arith}
+use Rattle.std.specs.Prelude.{None, Result}
 use lib.ListN.{length, get_or, take, drop, length-drop, take-append-drop}
 use lib.Seq.{length-take-le, drop-append_seam}
 use Rattle.rules.specs.declared.Schedule.{Schedule}
-use Rattle.rules.specs.declared.ReportedAll.{ReportedAll}
-use Rattle.rules.specs.declared.Tidied.{Tidied}
+use Rattle.rules.specs.declared.Refusal.{Refusal}
+use Rattle.rules.specs.declared.Done.{Done}
+use Rattle.rules.specs.Good.{Good}
 use Rattle.rules.specs.Bytes.{same}
 use Rattle.rules.specs.Text.{text}
 use Rattle.rules.specs.Words.{spaced, words_of}
-use Rattle.rules.specs.Answers.{Answer, Listed, of_reporting_all, of_tidying}
+use Rattle.rules.specs.Answers.{Answer, Listed, answered, listed, reported, tidied}
 use Rattle.rules.specs.Reports.{report_all}
 use Rattle.rules.specs.Tidy.{tidy}
 use Rattle.rules.specs.Program.{Printed}
 use Rattle.basics.proofs.BytesLaws.{same_exactly}
 use Rattle.texts.specs.Row.{IsRow}
 use Rattle.texts.proofs.RowLaws.{row_unique}
-use Rattle.text.specs.declared.Row.TheVariants.{Wrong}
-use Rattle.text.specs.Promises.{HasRow, ReadsRow, Puts}
-use Rattle.text.proofs.Putting.{puts_after, puts_as}
+use Rattle.text.specs.Promises.{HasRow, ReadsRow}
+use Rattle.text.proofs.Putting.{puts_as}
 use Rattle.order.specs.declared.Performed.{Performed}
 use Rattle.reports.specs.Pairs.{reports_of}
 use Rattle.reports.specs.Promises.{ReportsAll}
 use Rattle.tidy.specs.Promises.{Tidies}
 use Rattle.lists.specs.Lines.{most_entries, longest_row, most_moves, blank_list, Says, AsksReports, AsksTidy, list_printed, reports_printed, tidy_printed, bad_printed}
-use Rattle.lists.specs.Promises.{HasAsked, Prints, Makes, Performs, PerformsReports, PerformsTidy}
+use Rattle.answer.specs.Promises.{Counts}
+use Rattle.answer.proofs.Words.{counts}
+use Rattle.lists.specs.Promises.{HasAsked, Prints, Makes, PutsDone, Performs}
+use Rattle.lists.specs.Promises.{PerformsReports, PerformsTidy}
 
 -- A slice's first numbers, the very first apart.
 first_apart : (l : List ℕ) (n : ℕ) → 1 ≤ n → n ≤ length l → take n l ≡ get_or l 0 0 ∷ take (n - 1) (drop 1 l)
@@ -75,20 +79,28 @@ module _ {A : Type 0} {asks : A → Type 0} {printed : A → Printed} {entry exi
   pub performs_bad : ((a : A) → asks a → ⊥) → Makes (bad_printed s) entry exit r → Performs asks printed s entry exit r
   performs_bad none m = record { asked = λ a q. absurd (none a q); otherwise = λ _. m.prints; good = m.good; fits = m.fits }
 
--- A call with a blank list: the answer's words, the list, the end of the line.
-prints_listed : {l b d : List ℕ} {i k : ℕ} (answer : Answer) (t : Schedule) (list : List ℕ) (o : Listed) → record { answer = answer; schedule = t; list = list } ≡ o
-    → Puts l 0 (words_of answer) b i → Puts b i (spaced list ++ text "\n") d k → Prints (list_printed o) l d (record { schedule = t; count = k })
+-- A call that filled a list: the words of its answer, the list, the end of the line.
+makes_listed : (says : ℕ → Answer) (word : List ℕ) → Counts word says
+    → (d : Done (Result ℕ Refusal)) (list entry exit : List ℕ) (o : Listed) (r : Performed)
+    → listed (answered says) d list ≡ o → Good d.schedule → PutsDone d word list entry exit r
+    → Makes (list_printed o) entry exit r
 unfolding list_printed
-prints_listed answer t list o e words lent =
+makes_listed says word h d list entry exit o r e good p =
+    let w = counts says word h d.answer ∙ ap (λ (o : Listed). words_of o.answer) e in
+    let l = ap (λ (o : Listed). spaced o.list ++ text "\n") e in
     record {
-      prints = puts_after (puts_as (ap (λ (o : Listed). words_of o.answer) e) words) (puts_as (ap (λ (o : Listed). spaced o.list ++ text "\n") e) lent);
-      leaves = ap (λ (o : Listed). o.schedule) e;
+      prints = record {
+        prints = puts_as (ap₂ (λ (a b : List ℕ). a ++ b) w l) p.puts;
+        leaves = p.leaves ∙ ap (λ (o : Listed). o.schedule) e;
+      };
+      good = subst⁻¹ Good p.leaves good;
+      fits = p.fits;
     }
 
 -- ---- `reports`
 module _ (line entry exit : List ℕ) where
   -- There is no such row.
-  pub asks_wrong : longest_row ≤ length entry → ReadsRow (drop 7 line) entry exit Wrong → (entries : ℕ) (numbers : List ℕ) → AsksReports line entries numbers → ⊥
+  pub asks_wrong : longest_row ≤ length entry → ReadsRow (drop 7 line) entry exit None → (entries : ℕ) (numbers : List ℕ) → AsksReports line entries numbers → ⊥
   asks_wrong h none entries numbers a = none (entries ∷ numbers) (omega (arith, a.listed)) (behind (text "reports") line a.says)
 
   -- What was read is asked for, where it is within the bounds.
@@ -119,17 +131,20 @@ performs_reports {entry} {exit} s line slice list entries count r h large m =
     (λ b a. ap (λ (l : List ℕ). reports_printed s (get_or l 0 0) (drop 1 l)) (says_unique (text "reports") line h.asks.says a.says))
     (subst (λ (p : Printed). Makes p entry exit r) (ap₂ (λ (k n : ℕ). reports_printed s n (take k (drop 1 slice))) behind_first size) m)
 
-pub prints_reports : {l b d : List ℕ} {i k : ℕ} (s : Schedule) (numbers entry exit : List ℕ) (r : ReportedAll) (n : ℕ) → entry ≡ blank_list n
-    → ReportsAll s (reports_of numbers) entry exit r → Puts l 0 (words_of (of_reporting_all r.answer)) b i → Puts b i (spaced exit ++ text "\n") d k
-    → Prints (reports_printed s n numbers) l d (record { schedule = r.schedule; count = k })
-unfolding reports_printed
-prints_reports s numbers entry exit r n e p words lent =
-    prints_listed (of_reporting_all r.answer) r.schedule exit (report_all s (reports_of numbers) (blank_list n)) (p.is ∙ ap (report_all s (reports_of numbers)) e) words lent
+pub makes_reports : {out exit : List ℕ} (s : Schedule) (numbers entry list : List ℕ)
+    (d : Done (Result ℕ Refusal)) (n : ℕ) (r : Performed) → entry ≡ blank_list n
+    → ReportsAll s (reports_of numbers) entry list d → PutsDone d (text "reported") list out exit r
+    → Makes (reports_printed s n numbers) out exit r
+unfolding reports_printed words_of
+makes_reports {out} {exit} s numbers entry list d n r e p =
+    let rule = report_all s (reports_of numbers) in
+    makes_listed reported (text "reported") (λ k. refl) d list out exit (rule (blank_list n)) r
+    (p.is ∙ ap rule e) p.good
 
 -- ---- `tidy`
 module _ (line entry exit : List ℕ) where
   -- There is no such row.
-  pub tidy_wrong : length entry ≡ 1 → ReadsRow (drop 4 line) entry exit Wrong → (n : ℕ) → AsksTidy line n → ⊥
+  pub tidy_wrong : length entry ≡ 1 → ReadsRow (drop 4 line) entry exit None → (n : ℕ) → AsksTidy line n → ⊥
   tidy_wrong one none n a = none (n ∷ []) (omega arith) (behind (text "tidy") line a.says)
 
   -- The number that was read is asked for.
@@ -151,8 +166,11 @@ performs_tidy {entry} {exit} s line list n r asked large m =
     (λ b a. ap (λ (l : List ℕ). tidy_printed s (get_or l 0 0)) (says_unique (text "tidy") line asked.says a.says))
     (subst (λ (p : Printed). Makes p entry exit r) (ap (tidy_printed s) size) m)
 
-pub prints_tidy : {l b d : List ℕ} {i k : ℕ} (s : Schedule) (entry exit : List ℕ) (r : Tidied) (n : ℕ) → entry ≡ blank_list n
-    → Tidies s entry exit r → Puts l 0 (words_of (of_tidying r.answer)) b i → Puts b i (spaced exit ++ text "\n") d k
-    → Prints (tidy_printed s n) l d (record { schedule = r.schedule; count = k })
-unfolding tidy_printed
-prints_tidy s entry exit r n e p words lent = prints_listed (of_tidying r.answer) r.schedule exit (tidy s (blank_list n)) (p.is ∙ ap (tidy s) e) words lent
+pub makes_tidy : {out exit : List ℕ} (s : Schedule) (entry list : List ℕ)
+    (d : Done (Result ℕ Refusal)) (n : ℕ) (r : Performed) → entry ≡ blank_list n
+    → Tidies s entry list d → PutsDone d (text "tidied") list out exit r
+    → Makes (tidy_printed s n) out exit r
+unfolding tidy_printed words_of
+makes_tidy {out} {exit} s entry list d n r e p =
+    makes_listed tidied (text "tidied") (λ k. refl) d list out exit (tidy s (blank_list n)) r
+    (p.is ∙ ap (tidy s) e) p.good

@@ -8,7 +8,7 @@ mod tidying;
 pub use lending::blank;
 pub use reporting::{Asked, asked_of, perform_reports};
 use rules::LONGEST_ANSWER;
-pub use tidying::{TidyAsked, perform_tidy, tidy_asked};
+pub use tidying::{perform_tidy, tidy_asked};
 
 /// The most entries of a list of answers: most_entries of specs/Lines.
 pub const MOST_ENTRIES: usize = 128;

@@ -6,45 +6,47 @@ ghost use Rattle.rules.specs.Good.{Good};
 ghost use Rattle.lists.specs.Lines.{most_entries, longest_row, longest_line, reports_printed};
 ghost use Rattle.lists.specs.Promises.{ReadsAsked, Makes, PerformsReports};
 
-use crate::lending::{blank, perform_bad, put_lent};
+use crate::lending::{blank, perform_bad, put_done};
 use crate::{LONGEST_ROW, MOST_ENTRIES};
-use answer::put_reporting_all;
 use order::Performed;
 use reports::report_pairs;
 use rules::Schedule;
-use text::{Row, read_row};
+use text::read_row;
 
 // The place after `reports`: the word's length.
 const AFTER_REPORTS: usize = 7;
 
-/// A list of so many entries, and so many numbers of reports; or a bad line.
+/// What a line of reports asks for: how many entries its list has, and how many numbers its
+/// reports.
 #[derive(Clone, Copy)]
-pub enum Asked {
-    Reports(usize, usize),
-    Bad,
+pub struct Asked {
+    pub entries: usize,
+    pub count: usize,
 }
 
-/// What a line asks for; the numbers of its reports are in the lent slice, behind that of its entries.
-pub fn asked_of(line: &[u8], numbers: &mut [u32]) -> Asked
-    requires { (same (take (length (text_of "reports")) line.now) (text_of "reports") ≡ true) × (longest_row ≤ length numbers.old) }
+/// What a line asks for, if it is no bad line; the numbers of its reports are in the lent slice,
+/// behind that of its entries.
+pub fn asked_of(line: &[u8], numbers: &mut [u32]) -> Option<Asked>
+    requires { (same (take (length (text_of "reports")) line.now) (text_of "reports") ≡ true)
+        × (longest_row ≤ length numbers.old) }
     ensures { ReadsAsked line.now numbers.new result }
 {
-    let read = read_row(line, AFTER_REPORTS, numbers);
-    let Row::Count(count) = read else {
-        return Asked::Bad;
-    };
+    let count = read_row(line, AFTER_REPORTS, numbers)?;
     // no entries, or a sample that is missing
     if count % 2 == 0 {
-        return Asked::Bad;
+        return None;
     }
     if LONGEST_ROW < count {
-        return Asked::Bad;
+        return None;
     }
     let entries = numbers[0] as usize;
     if MOST_ENTRIES < entries {
-        return Asked::Bad;
+        return None;
     }
-    Asked::Reports(entries, count - 1)
+    Some(Asked {
+        entries,
+        count: count - 1,
+    })
 }
 
 // Makes the reports that the numbers say, and writes the line: the answer, and the list afterwards.
@@ -54,14 +56,11 @@ fn make_reports(s: Schedule, numbers: &[u32], list: &mut [u32], out: &mut [u8]) 
 {
     blank(list);
     let done = report_pairs(s, numbers, list);
-    let answer = done.answer;
-    let schedule = done.schedule;
-    let at = put_reporting_all(out, 0, answer);
-    let count = put_lent(out, at, list);
-    Performed { schedule, count }
+    put_done(done, b"reported", list, out)
 }
 
-/// Performs a line that opens with `reports`: writes what it prints from the buffer's start; the slices are for its numbers and its list.
+/// Performs a line that opens with `reports`: writes what it prints from the buffer's start; the
+/// slices are for its numbers and its list.
 pub fn perform_reports(
     s: Schedule,
     line: &[u8],
@@ -69,11 +68,13 @@ pub fn perform_reports(
     list: &mut [u32],
     out: &mut [u8],
 ) -> Performed
-    requires { Good s × (same (take (length (text_of "reports")) line.now) (text_of "reports") ≡ true) × (longest_row ≤ length numbers.old) × (most_entries ≤ length list.old) × (longest_line ≤ length out.old) }
+    requires { Good s
+        × (same (take (length (text_of "reports")) line.now) (text_of "reports") ≡ true)
+        × (longest_row ≤ length numbers.old) × (most_entries ≤ length list.old)
+        × (longest_line ≤ length out.old) }
     ensures { PerformsReports s line.now out.old out.new result }
 {
-    let asked = asked_of(line, numbers);
-    let Asked::Reports(entries, count) = asked else {
+    let Some(Asked { entries, count }) = asked_of(line, numbers) else {
         return perform_bad(s, out);
     };
     let end = 1 + count;

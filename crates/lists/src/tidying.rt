@@ -7,41 +7,27 @@ ghost use Rattle.lists.specs.Lines.{most_moves, longest_line, tidy_printed};
 ghost use Rattle.lists.specs.Promises.{ReadsTidy, Makes, PerformsTidy};
 
 use crate::MOST_MOVES;
-use crate::lending::{blank, perform_bad, put_lent};
-use answer::put_tidying;
+use crate::lending::{blank, perform_bad, put_done};
 use order::Performed;
 use rules::Schedule;
-use text::{Row, read_row};
+use text::read_row;
 use tidy::tidy;
 
 // The place after `tidy`: the word's length.
 const AFTER_TIDY: usize = 4;
 
-/// A list of so many numbers; or a bad line.
-#[derive(Clone, Copy)]
-pub enum TidyAsked {
-    Lends(usize),
-    Bad,
-}
-
-/// What a line asks for.
-pub fn tidy_asked(line: &[u8]) -> TidyAsked
+/// How many numbers the list has that a line asks for, if it is no bad line.
+pub fn tidy_asked(line: &[u8]) -> Option<usize>
     requires { same (take (length (text_of "tidy")) line.now) (text_of "tidy") ≡ true }
     ensures { ReadsTidy line.now result }
 {
     let mut sizes = [0u32; 1];
-    let read = read_row(line, AFTER_TIDY, &mut sizes);
-    let Row::Count(count) = read else {
-        return TidyAsked::Bad;
-    };
-    if count == 0 {
-        return TidyAsked::Bad;
+    let count = read_row(line, AFTER_TIDY, &mut sizes)?;
+    let n = sizes[0] as usize;
+    if count == 0 || MOST_MOVES < n {
+        return None;
     }
-    let n = sizes[0];
-    if n <= MOST_MOVES as u32 {
-        return TidyAsked::Lends(n as usize);
-    }
-    TidyAsked::Bad
+    Some(n)
 }
 
 // Makes the tidy, and writes the line: the answer, and the list afterwards.
@@ -51,20 +37,17 @@ fn make_tidy(s: Schedule, list: &mut [u32], out: &mut [u8]) -> Performed
 {
     blank(list);
     let done = tidy(s, list);
-    let answer = done.answer;
-    let schedule = done.schedule;
-    let at = put_tidying(out, 0, answer);
-    let count = put_lent(out, at, list);
-    Performed { schedule, count }
+    put_done(done, b"tidied", list, out)
 }
 
-/// Performs a line that opens with `tidy`: writes what it prints from the buffer's start; the slice is for its list.
+/// Performs a line that opens with `tidy`: writes what it prints from the buffer's start; the slice
+/// is for its list.
 pub fn perform_tidy(s: Schedule, line: &[u8], list: &mut [u32], out: &mut [u8]) -> Performed
-    requires { Good s × (same (take (length (text_of "tidy")) line.now) (text_of "tidy") ≡ true) × (most_moves ≤ length list.old) × (longest_line ≤ length out.old) }
+    requires { Good s × (same (take (length (text_of "tidy")) line.now) (text_of "tidy") ≡ true)
+        × (most_moves ≤ length list.old) × (longest_line ≤ length out.old) }
     ensures { PerformsTidy s line.now out.old out.new result }
 {
-    let asked = tidy_asked(line);
-    let TidyAsked::Lends(n) = asked else {
+    let Some(n) = tidy_asked(line) else {
         return perform_bad(s, out);
     };
     make_tidy(s, &mut list[..n], out)

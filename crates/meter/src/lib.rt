@@ -1,7 +1,7 @@
 //! The rule that moves a meter, on numbers.
 #![tactic(auto)]
 
-ghost use Rattle.std.specs.Prelude.{◌≡◌, ◌≤◌, max};
+ghost use Rattle.std.specs.Prelude.{◌≡◌, ◌≤◌};
 ghost use Rattle.meter.specs.Moved.{list_micros, moved_meter};
 ghost use Rattle.rules.specs.Meter.{moved as moved_rule, need as need_rule, target as target_rule};
 
@@ -26,21 +26,11 @@ fn need(estimate: u32) -> u32
     (estimate + GUARD_MICROS + (BLOCK_MICROS - 1)) / BLOCK_MICROS
 }
 
-fn larger(a: u32, b: u32) -> u32
-    ensures { result ≡ max a b }
-{
-    if a < b { b } else { a }
-}
-
 // Need, raised to the floor or lowered to the ceiling.
 fn target(needed: u32, floor: u16, ceiling: u16) -> u16
     ensures { result ≡ target_rule needed floor ceiling }
 {
-    let raised = larger(needed, floor as u32);
-    if ceiling as u32 <= raised {
-        return ceiling;
-    }
-    raised as u16
+    needed.max(u32::from(floor)).min(u32::from(ceiling)) as u16
 }
 
 // The meter moved by a sample: the new estimate, with the length that it aims at.

@@ -1,8 +1,9 @@
 -- What a line asks for, by the word that it opens with.
+use Rattle.std.specs.Prelude.{Option, Some, None}
+use Rattle.std.proofs.lemmas.List.{nil_from_length}
 use mathlib.Core.Path.{◌≡◌, refl, sym, ap, subst, ◌∙◌}
 use mathlib.Core.Bool.{Bool, true, false, ◌&&◌, false≢true}
 use mathlib.Core.List.{List, [], ◌∷◌, ◌++◌}
-use mathlib.Core.Logic.{◌≢◌}
 use Prim.Native.Nat.{ℕ, ◌^◌, ◌<◌, ◌≤◌}
 use native.Mathlib.Omega.{arith}
 use lib.ListN.{length, get_or, take, drop, take-append-drop}
@@ -10,7 +11,6 @@ use lib.Seq.{length-take-le}
 use borrow.Author.Tests.{lt-ltb, le-leb, leb-true}
 use Rattle.rules.specs.declared.Command.{Command}
 use Rattle.rules.specs.declared.Command.TheVariants.{Admit, AdmitRange, Drop, Report, Owner, Anchor}
-use Rattle.rules.specs.declared.Line.TheVariants.{Says, Bad as SaysBad}
 use Rattle.rules.specs.Bytes.{same}
 use Rattle.rules.specs.Text.{text}
 use Rattle.rules.specs.Words.{spaced}
@@ -20,14 +20,12 @@ use Rattle.texts.specs.Row.{IsRow}
 use Rattle.basics.proofs.BytesLaws.{same_exactly}
 use Rattle.texts.proofs.RowLaws.{row_unique}
 use Rattle.texts.proofs.CommandLaws.{says_only, bad_only}
-use Rattle.text.specs.declared.Row.TheVariants.{Wrong as RowWrong}
-use Rattle.text.specs.Promises.{HasRow, ReadsRow}
+use Rattle.text.specs.Promises.{ReadsRow}
 use Rattle.text.proofs.Opening.{opens_long}
-use Rattle.hexadecimal.specs.declared.Hex.TheVariants.{Bytes, Wrong}
 use Rattle.hexadecimal.specs.Hex.{hex}
 use Rattle.hexadecimal.specs.Promises.{ReadsHex}
 use Rattle.order.specs.declared.Order.{Order as Ordered}
-use Rattle.order.specs.declared.Order.TheVariants.{Save, SaveInto, Load, Bad}
+use Rattle.order.specs.declared.Order.TheVariants.{Save, SaveInto, Load}
 use Rattle.hexadecimal.specs.Lending.{most_buffer}
 use Rattle.order.specs.Orders.{Order, command, fresh, save, state, bad, save_into, load, order_line, allowed, asks}
 use Rattle.order.specs.Promises.{of_order, Within, Asks, AsksSave}
@@ -80,21 +78,21 @@ module _ (line : List ℕ) (o : same (take 4 line) (text "save") ≡ true) where
   save_long = opens_long line (text "save") o
 
   -- No number,
-  asks_image : IsRow (drop 4 line) [] → AsksSave line Save
+  asks_image : IsRow (drop 4 line) [] → AsksSave line (Some Save)
   unfolding order_line allowed spaced
   asks_image r buffer =
       let q : line ≡ order_line save = whole line (text "save") 4 saved ∙ ap (λ (x : List ℕ). text "save" ++ x) r.is in
       record { is = sym (ap asks q ∙ asks_line save tt refl); within = tt }
 
   -- one that is not too large,
-  asks_save : (n : ℕ) → IsRow (drop 4 line) (n ∷ []) → n ≤ most_buffer → AsksSave line (SaveInto n)
+  asks_save : (n : ℕ) → IsRow (drop 4 line) (n ∷ []) → n ≤ most_buffer → AsksSave line (Some (SaveInto n))
   unfolding order_line allowed
   asks_save n r l buffer =
       let q : line ≡ order_line (save_into n) = whole line (text "save") 4 saved ∙ ap (λ (x : List ℕ). text "save" ++ x) r.is in
       record { is = sym (ap asks q ∙ asks_line (save_into n) tt (le-leb n most_buffer l)); within = l }
 
   -- or anything else.
-  asks_no_save : (IsRow (drop 4 line) [] → ⊥) → ((n : ℕ) → n ≤ most_buffer → IsRow (drop 4 line) (n ∷ []) → ⊥) → AsksSave line Bad
+  asks_no_save : (IsRow (drop 4 line) [] → ⊥) → ((n : ℕ) → n ≤ most_buffer → IsRow (drop 4 line) (n ∷ []) → ⊥) → AsksSave line None
   unfolding order_line allowed spaced all_fit
   asks_no_save f g buffer = record { is = sym (asks_bad line (λ x p a e. refuse (opened_order x p) a e)); within = tt }
     where
@@ -105,38 +103,29 @@ module _ (line : List ℕ) (o : same (take 4 line) (text "save") ≡ true) where
       refuse (other h k) a e = h (sym (ap (take 4) e) ∙ saved)
 
   -- The same, by what was read into room for one number.
-  module _ (entry exit : List ℕ) (one : length entry ≡ 1) (kept : length exit ≡ 1) where
-    pub save_wrong : ReadsRow (drop 4 line) entry exit RowWrong → AsksSave line Bad
-    save_wrong f = asks_no_save (f [] (omega arith)) (λ n l. f (n ∷ []) (omega arith))
+  pub save_wrong : (entry exit : List ℕ) → length entry ≡ 1 → ReadsRow (drop 4 line) entry exit None → AsksSave line None
+  save_wrong entry exit one f = asks_no_save (f [] (omega arith)) (λ n l. f (n ∷ []) (omega arith))
 
-    module _ (count : ℕ) (r : HasRow (drop 4 line) entry exit count) where
-      pub save_none : count ≡ 0 → AsksSave line Save
-      save_none e = asks_image (rw e at r.row)
+  module _ (ns : List ℕ) (row : IsRow (drop 4 line) ns) where
+    pub save_none : length ns < 1 → AsksSave line (Some Save)
+    save_none h = let e : ns ≡ [] = nil_from_length ns (omega arith) in asks_image (rw e at row)
 
-      module _ (some : count ≢ 0) where
-        size : ℕ
-        size = get_or exit 0 0
+    module _ (h : length ns ≡ 1) where
+      single : (l : List ℕ) → length l ≡ 1 → l ≡ get_or l 0 0 ∷ []
+      single [] h = absurd (omega arith)
+      single (x ∷ l) h = let e : l ≡ [] = nil_from_length l (omega arith) in ap {B = List ℕ} (λ k. x ∷ k) e
 
-        row : IsRow (drop 4 line) (size ∷ [])
-        unfolding size
-        row =
-            let e : count ≡ 1 = omega (arith, r.within) in
-            rw (first exit kept) at (rw e at r.row)
-          where
-            first : (l : List ℕ) → length l ≡ 1 → take 1 l ≡ get_or l 0 0 ∷ []
-            first [] h = absurd (omega arith)
-            first (x ∷ l) h = refl
+      size_row : IsRow (drop 4 line) (get_or ns 0 0 ∷ [])
+      size_row = subst (IsRow (drop 4 line)) (single ns h) row
 
-        pub save_right : get_or exit 0 0 ≤ most_buffer → AsksSave line (SaveInto (get_or exit 0 0))
-        unfolding size
-        save_right l = asks_save (get_or exit 0 0) row l
+      pub save_right : get_or ns 0 0 ≤ most_buffer → AsksSave line (Some (SaveInto (get_or ns 0 0)))
+      save_right l = asks_save (get_or ns 0 0) size_row l
 
-        pub save_large : most_buffer < get_or exit 0 0 → AsksSave line Bad
-        unfolding size
-        save_large l =
-            asks_no_save
-            (λ q. let z = ap (λ (x : List ℕ). length x) (row_unique row q) in omega (arith, z))
-            (λ n k q. let z = ap (λ (x : List ℕ). get_or x 0 0) (row_unique row q) in omega (arith, z))
+      pub save_large : most_buffer < get_or ns 0 0 → AsksSave line None
+      save_large l =
+          asks_no_save
+          (λ q. let z = ap (λ (x : List ℕ). length x) (row_unique size_row q) in omega (arith, z))
+          (λ n k q. let z = ap (λ (x : List ℕ). get_or x 0 0) (row_unique size_row q) in omega (arith, z))
 
 load_line : (bs : List ℕ) → 0 < length bs → text "load " ++ hex bs ≡ order_line (load bs)
 unfolding order_line
@@ -151,7 +140,7 @@ module _ (line : List ℕ) (o : same (take 5 line) (text "load ") ≡ true) (buf
   load_long = opens_long line (text "load ") o
 
   -- Bytes in hexadecimal,
-  pub asks_load : (n : ℕ) → ReadsHex (drop 5 line) buffer (Bytes n) → Asks line buffer (Load n)
+  pub asks_load : (n : ℕ) → ReadsHex (drop 5 line) buffer (Some n) → Asks line buffer (Some (Load n))
   unfolding allowed
   asks_load n (some_byte, within, digits, bytes) =
       let q : line ≡ order_line (load (take n buffer)) =
@@ -160,7 +149,7 @@ module _ (line : List ℕ) (o : same (take 5 line) (text "load ") ≡ true) (buf
       record { is = sym (ap asks q ∙ asks_line (load (take n buffer)) tt bytes); within = within }
 
   -- or anything else.
-  pub asks_no_load : ReadsHex (drop 5 line) buffer Wrong → Asks line buffer Bad
+  pub asks_no_load : ReadsHex (drop 5 line) buffer None → Asks line buffer None
   unfolding order_line allowed
   asks_no_load f =
       record {
@@ -180,13 +169,13 @@ pub asks_word : (line : List ℕ) (o : Order) → Proper o → allowed o ≡ tru
 asks_word line o p a e = ap asks ((same_exactly line (order_line o)).0 e) ∙ asks_line o p a
 
 -- A command,
-pub asks_command : (line : List ℕ) (c : Command) → says line ≡ Says c → asks line ≡ command c
+pub asks_command : (line : List ℕ) (c : Command) → says line ≡ Some c → asks line ≡ command c
 unfolding order_line allowed
 asks_command line c e = let w = says_only line c e in ap asks w.0 ∙ asks_line (command c) tt w.1
 
 -- or nothing that is known.
 pub asks_nothing : (line : List ℕ) → same line (text "fresh") ≡ false → same line (text "state") ≡ false → same line (text "load") ≡ false
-    → same (take 4 line) (text "save") ≡ false → same (take 5 line) (text "load ") ≡ false → says line ≡ SaysBad → asks line ≡ bad
+    → same (take 4 line) (text "save") ≡ false → same (take 5 line) (text "load ") ≡ false → says line ≡ None → asks line ≡ bad
 unfolding order_line allowed
 asks_nothing line fresh' state' load' save' of' says' = asks_bad line known
   where
@@ -208,8 +197,8 @@ asks_nothing line fresh' state' load' save' of' says' = asks_bad line known
 
 -- ---- what was answered
 -- The order by its case, and what lies within the buffer.
-pub asked : {line buffer : List ℕ} {r v : Ordered} → Asks line buffer r → r ≡ v → asks line ≡ of_order buffer v
-asked {line} {buffer} a e = sym a.is ∙ ap (of_order buffer) e
+pub asked : {line buffer : List ℕ} {r v : Ordered} → Asks line buffer (Some r) → r ≡ v → asks line ≡ of_order buffer (Some v)
+asked {buffer = buffer} a e = sym a.is ∙ ap (λ (o : Ordered). of_order buffer (Some o)) e
 
-pub inside : {line buffer : List ℕ} {r v : Ordered} → Asks line buffer r → r ≡ v → Within buffer v
-inside {line} {buffer} a e = subst (Within buffer) e a.within
+pub inside : {line buffer : List ℕ} {r v : Ordered} → Asks line buffer (Some r) → r ≡ v → Within buffer (Some v)
+inside {buffer = buffer} a e = subst (λ (o : Ordered). Within buffer (Some o)) e a.within

@@ -1,8 +1,6 @@
 -- What a line of a script asks for.
-use Rattle.std.specs.Prelude.{ℕ, Bool, true, ◌&&◌, cond, List, [], ◌∷◌, ◌++◌, leb, length, take, drop}
+use Rattle.std.specs.Prelude.{ℕ, Bool, true, ◌&&◌, cond, List, [], ◌∷◌, ◌++◌, leb, length, take, drop, Option, Some, None}
 use Rattle.rules.specs.declared.Command.{Command}
-use Rattle.rules.specs.declared.Line.{Line}
-use Rattle.rules.specs.declared.Line.TheVariants.{Says, Bad}
 use Rattle.rules.specs.Bytes.{same}
 use Rattle.rules.specs.Text.{text}
 use Rattle.rules.specs.Decimal.{value}
@@ -41,9 +39,9 @@ allowed bad = true
 allowed (save_into n) = leb n most_buffer
 allowed (load bytes) = all_bytes bytes
 
-abbrev pub of_line : Line → Order
-of_line (Says c) = command c
-of_line Bad = bad
+abbrev pub of_line : Option Command → Order
+of_line (Some c) = command c
+of_line None = bad
 
 -- The order that a line can be, if any: by its first word.
 unfoldable pub ordered : List ℕ → Order

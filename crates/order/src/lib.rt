@@ -6,10 +6,10 @@ ghost use Rattle.rules.specs.Bytes.{same};
 ghost use Rattle.rules.specs.Text.{text as text_of};
 ghost use Rattle.order.specs.Promises.{Asks, AsksSave};
 
-use hexadecimal::{Hex, MOST_BUFFER, read_hex};
+use hexadecimal::{MOST_BUFFER, read_hex};
 use line::says;
-use rules::{Command, Line, Schedule};
-use text::{Row, is_word, opens, read_row};
+use rules::{Command, Schedule};
+use text::{is_word, opens, read_row};
 
 // The places after `save` and after `load` and its space: the words' lengths.
 const AFTER_SAVE: usize = 4;
@@ -25,7 +25,6 @@ pub enum Order {
     SaveInto(u32),
     Load(usize),
     State,
-    Bad,
 }
 
 /// The schedule after a line, and how many bytes it printed.
@@ -36,50 +35,41 @@ pub struct Performed {
 }
 
 // A save by itself, or into a buffer of so many bytes.
-fn save_of(line: &[u8]) -> Order
+fn save_of(line: &[u8]) -> Option<Order>
     requires { same (take (length (text_of "save")) line.now) (text_of "save") ≡ true }
     ensures { AsksSave line.now result }
 {
     let mut sizes = [0u32; 1];
-    let read = read_row(line, AFTER_SAVE, &mut sizes);
-    let Row::Count(count) = read else {
-        return Order::Bad;
-    };
-    if count == 0 {
-        return Order::Save;
+    let count = read_row(line, AFTER_SAVE, &mut sizes)?;
+    match &sizes[..count] {
+        [] => Some(Order::Save),
+        &[size] if size <= MOST_BUFFER => Some(Order::SaveInto(size)),
+        _ => None,
     }
-    let size = sizes[0];
-    if size <= MOST_BUFFER {
-        return Order::SaveInto(size);
-    }
-    Order::Bad
 }
 
 // A load of bytes in hexadecimal.
-fn load_of(line: &[u8], bytes: &mut [u8]) -> Order
+fn load_of(line: &[u8], bytes: &mut [u8]) -> Option<Order>
     requires { (same (take (length (text_of "load ")) line.now) (text_of "load ") ≡ true) × (length line.now ≤ 2 * length bytes.old) }
     ensures { Asks line.now bytes.new result }
 {
-    let read = read_hex(line, AFTER_LOAD, bytes);
-    let Hex::Bytes(n) = read else {
-        return Order::Bad;
-    };
-    Order::Load(n)
+    let count = read_hex(line, AFTER_LOAD, bytes)?;
+    Some(Order::Load(count))
 }
 
-/// The order that a line is, written out; any other line is bad.
-pub fn order_of(line: &[u8], bytes: &mut [u8]) -> Order
+/// The order that a line is, written out; any other line asks for none.
+pub fn order_of(line: &[u8], bytes: &mut [u8]) -> Option<Order>
     requires { length line.now ≤ 2 * length bytes.old }
     ensures { Asks line.now bytes.new result }
 {
     if is_word(line, b"fresh") {
-        return Order::Fresh;
+        return Some(Order::Fresh);
     }
     if is_word(line, b"state") {
-        return Order::State;
+        return Some(Order::State);
     }
     if is_word(line, b"load") {
-        return Order::Load(0);
+        return Some(Order::Load(0));
     }
     if opens(line, b"save") {
         return save_of(line);
@@ -87,8 +77,6 @@ pub fn order_of(line: &[u8], bytes: &mut [u8]) -> Order
     if opens(line, b"load ") {
         return load_of(line, bytes);
     }
-    match says(line) {
-        Line::Says(command) => Order::Command(command),
-        Line::Bad => Order::Bad,
-    }
+    let command = says(line)?;
+    Some(Order::Command(command))
 }

@@ -9,7 +9,8 @@ use native.Mathlib.Decide.{ℕ_discrete, dec_lt}
 use native.Mathlib.Omega.{arith}
 use lib.Pow.{pow_pos, pow_mono}
 use lib.Dec.{eqb}
-use lib.ListN.{length, get_or, set, length-set}
+use lib.ListN.{length, get_or, set, length-set, take}
+use Rattle.std.proofs.lemmas.List.{get_or-take, length-take-le}
 use lib.Seq.{get_or-set_same, get_or-set_other}
 use borrow.Author.Tests.{eqb-true, eqb-false}
 use Rattle.rules.specs.declared.Refusal.TheVariants.{NoOpenAnchor}
@@ -25,7 +26,7 @@ use Rattle.basics.proofs.BoolLaws.{is_false}
 use Rattle.basics.proofs.BelowLaws.{every_at, every_of, least_is, least_is_none}
 use Rattle.blocks.proofs.MirrorLaws.{mirror_lt, mirror_mirror, mirror_by_half, mirror_zero}
 use Rattle.blocks.proofs.TreeLaws.{tree_class}
-use Rattle.place.specs.Promises.{row_classes, Anchors, Stretches, Measures, Lengthens}
+use Rattle.place.specs.Promises.{row_classes, Anchors, Stretches, StretchesBy, Measures, Lengthens}
 
 -- The run at A is free up to its block n.
 abbrev pub Clear : (ℕ → Bool) → ℕ → ℕ → ℕ → Type 0
@@ -103,14 +104,6 @@ pub record ListedTo (k n : ℕ) (anchors : List ℕ) : Type 0 where
   pub first : get_or anchors 0 0 ≡ 0
   pub order : (q : ℕ) → q < n → get_or anchors q 0 ≡ mirrored k q
 
-pub listed_none : (k : ℕ) (anchors : List ℕ) → length anchors ≡ row_classes → ListedTo k 0 (set anchors 0 0)
-listed_none k anchors l =
-    record {
-      long = length-set anchors 0 0 ∙ l;
-      first = get_or-set_same anchors 0 0 0 (omega arith);
-      order = λ q h. absurd (omega arith);
-    }
-
 -- One node more.
 listed_next : (k n A : ℕ) (anchors : List ℕ) → n < row_classes → A ≡ mirrored k n → ListedTo k n anchors → ListedTo k (n + 1) (set anchors n A)
 listed_next k n A anchors l e r =
@@ -165,28 +158,27 @@ listed_all k anchors r p l =
     (λ s. rw s (r.first ∙ sym (mirror_zero k)))
     (λ s. r.order p (omega (arith, (highest k (omega arith)).2)))
 
+-- What stands among the anchors of the F nodes of a depth is the anchor of its node.
+pub listed_front : (k F p : ℕ) (anchors : List ℕ) → k ≤ largest_k → F ≡ 2 ^ k → length anchors ≡ row_classes → Anchors k anchors
+    → p < length (take F anchors) → (p < 2 ^ k) × (get_or (take F anchors) p 0 ≡ mirrored k p)
+listed_front k F p anchors hk e l a h =
+    let g : 2 ^ k ≤ row_classes = pow_mono hk in
+    let q : length (take F anchors) ≡ F = length-take-le F anchors (omega arith) in
+    (omega arith, get_or-take F anchors p 0 (omega arith) ∙ a p (omega arith))
+
 -- ---- measuring a depth
--- The stretches from class c on have been measured; n classes are free from c on.
-pub record MeasuredFrom (k c n : ℕ) (row : ℕ → Bool) (room : List ℕ) : Type 0 where
+-- The stretches from class c on have been measured, by what the answers say; n classes are free from
+-- c on.
+pub record MeasuredFrom (k c n : ℕ) (says : ℕ → Bool → Type 0) (room : List ℕ) : Type 0 where
   pub long : length room ≡ row_classes
   pub within : c + n ≤ 2 ^ k
-  pub ahead : (i : ℕ) → i < n → row (c + i) ≡ false
-  pub shut : (A : ℕ) → c ≤ A → A < 2 ^ k → get_or room A 0 ≡ 0 → row A ≡ true
-  pub clear : (A i : ℕ) → c ≤ A → A < 2 ^ k → i < get_or room A 0 → (A + i < 2 ^ k) × (row (A + i) ≡ false)
+  pub ahead : (i : ℕ) → i < n → says (c + i) false
+  pub shut : (A : ℕ) → c ≤ A → A < 2 ^ k → get_or room A 0 ≡ 0 → says A true
+  pub clear : (A i : ℕ) → c ≤ A → A < 2 ^ k → i < get_or room A 0 → (A + i < 2 ^ k) × says (A + i) false
 
-pub measured_none : (k : ℕ) (row : ℕ → Bool) (room : List ℕ) → length room ≡ row_classes → MeasuredFrom k (2 ^ k) 0 row room
-measured_none k row room h =
-    record {
-      long = h;
-      within = omega arith;
-      ahead = λ i l. absurd (omega arith);
-      shut = λ A l m e. absurd (omega arith);
-      clear = λ A i l m h. absurd (omega arith);
-    }
-
-module _ (k c n : ℕ) (row : ℕ → Bool) (room : List ℕ) (hk : k ≤ largest_k) (r : MeasuredFrom k (c + 1) n row room) where
+module _ (k c n : ℕ) (says : ℕ → Bool → Type 0) (room : List ℕ) (hk : k ≤ largest_k) (r : MeasuredFrom k (c + 1) n says room) where
   -- One class more, from which m are free.
-  measured_more : (m : ℕ) → c + m ≤ 2 ^ k → (m ≡ 0 → row c ≡ true) → ((i : ℕ) → i < m → row (c + i) ≡ false) → MeasuredFrom k c m row (set room c m)
+  measured_more : (m : ℕ) → c + m ≤ 2 ^ k → (m ≡ 0 → says c true) → ((i : ℕ) → i < m → says (c + i) false) → MeasuredFrom k c m says (set room c m)
   measured_more m w z a =
       let g : 2 ^ k ≤ row_classes = pow_mono hk in
       let same : get_or (set room c m) c 0 ≡ m = get_or-set_same room c m 0 (omega arith) in
@@ -204,38 +196,42 @@ module _ (k c n : ℕ) (row : ℕ → Bool) (room : List ℕ) (hk : k ≤ larges
             (λ s. r.clear A i (omega arith) h (rw (get_or-set_other room c A m 0 s) at e));
       }
 
-  pub measured_taken : row c ≡ true → MeasuredFrom k c 0 row (set room c 0)
+  pub measured_taken : says c true → MeasuredFrom k c 0 says (set room c 0)
   measured_taken e = measured_more 0 (omega arith) (λ z. e) (λ i l. absurd (omega arith))
 
-  pub measured_free : row c ≡ false → MeasuredFrom k c (n + 1) row (set room c (n + 1))
+  pub measured_free : says c false → MeasuredFrom k c (n + 1) says (set room c (n + 1))
   measured_free e =
       measured_more (n + 1) (omega arith) (λ z. absurd (omega arith))
       (λ i l.
       by_cases (ℕ_discrete i 0)
-      (λ s. ap row (omega arith) ∙ e)
-      (λ s. ap row (omega arith) ∙ r.ahead (i - 1) (omega arith)))
+      (λ s. let q : c + i ≡ c = omega arith in rw q e)
+      (λ s. let q : c + i ≡ c + 1 + (i - 1) = omega arith in rw q (r.ahead (i - 1) (omega arith))))
 
-pub measured_all : (k n : ℕ) (tree room : List ℕ) → k ≤ depth → MeasuredFrom k 0 n (shown k tree) room → Measures k tree room
-measured_all k n tree room hk r f e =
-    let shows : (A : ℕ) → A < 2 ^ k → shown k tree A ≡ class_taken f k A = λ A l. shown_taken f k A tree hk l e in
+pub measured_all : (k n : ℕ) (says : ℕ → Bool → Type 0) (room : List ℕ) → MeasuredFrom k 0 n says room → StretchesBy k says room
+measured_all k n says room r = record { shut = λ A l z. r.shut A (omega arith) l z; clear = λ A i l h. r.clear A i (omega arith) l h }
+
+-- By the tree: the answer to a class is its node's bit.
+pub measured_tree : (k : ℕ) (says : ℕ → Bool → Type 0) (tree room : List ℕ) → k ≤ depth
+    → ((A : ℕ) (b : Bool) → A < 2 ^ k → says A b → b ≡ shown k tree A) → StretchesBy k says room → Measures k tree room
+measured_tree k says tree room hk q r f e =
+    let told : (A : ℕ) (b : Bool) → A < 2 ^ k → says A b → class_taken f k A ≡ b =
+    λ A b l s. sym (q A b l s ∙ shown_taken f k A tree hk l e) in
     record {
-      shut = λ A l z. sym (shows A l) ∙ r.shut A (omega arith) l z;
+      shut = λ A l z. told A true l (r.shut A l z);
       clear = λ A i l h.
-          let w = r.clear A i (omega arith) l h in
-          (w.0, sym (shows (A + i) w.0) ∙ w.1);
+          let w = r.clear A i l h in
+          (w.0, told (A + i) false w.0 w.1);
     }
 
 -- By a row: a class is taken where it has 0.
-abbrev pub marked : List ℕ → ℕ → Bool
-marked row A = eqb (get_or row A 0) 0
-
-pub lengthened_all : (k n : ℕ) (row room : List ℕ) → MeasuredFrom k 0 n (marked row) room → Lengthens k row room
-lengthened_all k n row room r f m =
+pub lengthened_row : (k : ℕ) (says : ℕ → Bool → Type 0) (row room : List ℕ)
+    → ((A : ℕ) (b : Bool) → A < 2 ^ k → says A b → b ≡ eqb (get_or row A 0) 0) → StretchesBy k says room → Lengthens k row room
+lengthened_row k says row room q r f m =
     record {
-      shut = λ A l z. m.shut A l (eqb-true (get_or row A 0) 0 (r.shut A (omega arith) l z));
+      shut = λ A l z. m.shut A l (eqb-true (get_or row A 0) 0 (sym (q A true l (r.shut A l z))));
       clear = λ A i l h.
-          let w = r.clear A i (omega arith) l h in
-          let d = eqb-false (get_or row (A + i) 0) 0 w.1 in
+          let w = r.clear A i l h in
+          let d = eqb-false (get_or row (A + i) 0) 0 (sym (q (A + i) false w.0 w.1)) in
           let e : A + i + 0 ≡ A + i = omega arith in
           (w.0, ap (class_taken f k) (sym e) ∙ (m.clear (A + i) 0 w.0 (omega arith)).1);
     }

@@ -2,10 +2,10 @@
 use mathlib.Core.Path.{◌≡◌, refl, sym, ap, ◌∙◌}
 use mathlib.Core.Bool.{Bool, true, false, not, ◌||◌, cond, false≢true}
 use mathlib.Core.Option.{Option, none, some}
-use Prim.Native.Nat.{ℕ, ◌*◌, ◌/◌, ◌^◌, ◌<◌, ◌≤◌}
+use Prim.Native.Nat.{ℕ, ◌*◌, ◌^◌, ◌<◌, ◌≤◌}
 use native.Mathlib.Omega.{arith}
 use lib.Dec.{ltb}
-use borrow.Author.Tests.{le-leb, lt-leb, lt-ltb, le-ltb, ltb-true, ltb-false, eq-eqb, ne_eqb, not-false}
+use borrow.Author.Tests.{le-leb, lt-leb, le-ltb, ltb-true, ltb-false, not-false}
 use Rattle.rules.specs.Ownership.{largest_k}
 use Rattle.rules.specs.declared.Refusal.TheVariants.{HandleLive, IntervalOutside, NoInterval, ShareWrong, CeilingAboveHalf, NoOpenAnchor}
 use Rattle.rules.specs.Core.{is_interval, is_range}
@@ -33,55 +33,6 @@ interval_below i h = rw (lt-leb 6 i h)
 pub interval_above : (i : ℕ) → 3200 < i → refuses (number IntervalOutside) ≡ interval_step i
 unfolding interval_step is_interval
 interval_above i h = rw (le-leb 6 i (omega arith), lt-leb i 3200 h)
-
-module _ (lo hi : ℕ) where
-  pub smallest_low : lo < 6 → refuses (number IntervalOutside) ≡ smallest_step lo hi
-  unfolding smallest_step
-  smallest_low h = rw (lt-ltb lo 6 h)
-
-  pub smallest_high : 6 ≤ lo → hi < lo → refuses (number IntervalOutside) ≡ smallest_step lo hi
-  unfolding smallest_step
-  smallest_high h l = rw (le-ltb lo 6 h, lt-ltb hi lo l)
-
-  pub smallest_right : 6 ≤ lo → lo ≤ hi → passes ≡ smallest_step lo hi
-  unfolding smallest_step
-  smallest_right h l = rw (le-ltb lo 6 h, le-ltb hi lo l)
-
-module _ (lo F : ℕ) where
-  pub range_misses : 6 * F < lo → refuses (number NoInterval) ≡ range_step lo F
-  unfolding range_step
-  range_misses h = rw (lt-ltb (6 * F) lo h)
-
-  pub range_holds : lo ≤ 6 * F → passes ≡ range_step lo F
-  unfolding range_step
-  range_holds h = rw (le-ltb (6 * F) lo h)
-
-module _ (floor ceiling F : ℕ) where
-  pub share_zero : floor ≡ 0 → refuses (number ShareWrong) ≡ share_step floor ceiling F
-  unfolding share_step
-  share_zero e = rw (eq-eqb floor 0 e)
-
-  pub share_low : (floor ≡ 0 → ⊥) → ceiling < floor → refuses (number ShareWrong) ≡ share_step floor ceiling F
-  unfolding share_step
-  share_low e h = rw (ne_eqb floor 0 e, lt-ltb ceiling floor h)
-
-  pub share_high : (floor ≡ 0 → ⊥) → floor ≤ ceiling → F < ceiling → refuses (number ShareWrong) ≡ share_step floor ceiling F
-  unfolding share_step
-  share_high e h l = rw (ne_eqb floor 0 e, le-ltb ceiling floor h, lt-ltb F ceiling l)
-
-  pub share_right : (floor ≡ 0 → ⊥) → floor ≤ ceiling → ceiling ≤ F → passes ≡ share_step floor ceiling F
-  unfolding share_step
-  share_right e h l = rw (ne_eqb floor 0 e, le-ltb ceiling floor h, le-ltb F ceiling l)
-
--- Half of F rounded down serves for all numbers.
-module _ (ceiling F : ℕ) where
-  pub half_above : F / 2 < ceiling → refuses (number CeilingAboveHalf) ≡ half_step ceiling F
-  unfolding half_step
-  half_above h = rw (lt-ltb F (2 * ceiling) (omega arith))
-
-  pub half_within : ceiling ≤ F / 2 → passes ≡ half_step ceiling F
-  unfolding half_step
-  half_within h = rw (le-ltb F (2 * ceiling) (omega arith))
 
 -- ---- what the answer of a step tells
 tells : (b : Bool) (x y z : Step) → z ≡ cond b x y → (z ≡ x → ⊥) → (b ≡ false) × (z ≡ y)

@@ -1,21 +1,11 @@
 -- The steps of an admission that answer an enum, and what each answers.
-use Rattle.std.specs.Prelude.{ℕ, ◌*◌, Bool, cond, ◌||◌, not, ltb}
-use Rattle.std.proofs.Math.Option.{Option, none, some, get_or}
+use Rattle.std.specs.Prelude.{ℕ, ◌*◌, Bool, cond, ◌||◌, not, ltb, Option, Some, None, Result, Ok, Err}
+use Rattle.std.proofs.Math.Option.{Option as Found, none, some, get_or}
 use Rattle.rules.specs.declared.Refusal.TheVariants.{IntervalOutside, NoInterval, ShareWrong, CeilingAboveHalf, NoOpenAnchor}
-use Rattle.rules.specs.declared.Interval.{Interval}
-use Rattle.rules.specs.declared.Interval.TheVariants.{Gives, Outside}
-use Rattle.rules.specs.declared.Smallest.{Smallest}
-use Rattle.rules.specs.declared.Smallest.TheVariants.{Within, Outside as SmallestOutside}
-use Rattle.rules.specs.declared.Range.{Range}
-use Rattle.rules.specs.declared.Range.TheVariants.{Holds, Misses}
-use Rattle.rules.specs.declared.Share.{Share}
-use Rattle.rules.specs.declared.Share.TheVariants.{Fits, Wrong}
-use Rattle.rules.specs.declared.Half.{Half}
-use Rattle.rules.specs.declared.Half.TheVariants.{Within as HalfWithin, Above}
-use Rattle.rules.specs.declared.Place.{Place}
-use Rattle.rules.specs.declared.Place.TheVariants.{At, Nowhere}
+use Rattle.rules.specs.declared.Refusal.{Refusal}
+use Rattle.rules.specs.declared.Verdict.{Verdict}
+use Rattle.rules.specs.declared.Verdict.TheVariants.{Passes, Refuses}
 use Rattle.rules.specs.declared.Plan.{Plan}
-use Rattle.rules.specs.declared.Plan.TheVariants.{At as PlanAt, Refused as PlanRefused}
 use Rattle.rules.specs.Time.{block_slots}
 use Rattle.rules.specs.Core.{least_interval, is_interval, is_range}
 use Rattle.rules.specs.Mirror.{mirrored}
@@ -24,33 +14,34 @@ use Rattle.rules.specs.Refusals.{number, decided}
 use Rattle.rules.specs.Steps.{Step, gives, places, passes, refuses}
 
 -- ---- the sheet's number and values for every case
-abbrev pub of_interval : Interval → Step
-of_interval (Gives k) = gives k
-of_interval Outside = refuses (number IntervalOutside)
+abbrev pub of_interval : Option ℕ → Step
+of_interval (Some k) = gives k
+of_interval None = refuses (number IntervalOutside)
 
-abbrev pub of_smallest : Smallest → Step
-of_smallest Within = passes
-of_smallest SmallestOutside = refuses (number IntervalOutside)
+-- A step with no value to give passes, or refuses with this number.
+abbrev pub of_verdict : ℕ → Verdict → Step
+of_verdict n Passes = passes
+of_verdict n Refuses = refuses n
 
-abbrev pub of_range : Range → Step
-of_range Holds = passes
-of_range Misses = refuses (number NoInterval)
+abbrev pub of_smallest : Verdict → Step
+of_smallest = of_verdict (number IntervalOutside)
 
-abbrev pub of_share : Share → Step
-of_share Fits = passes
-of_share Wrong = refuses (number ShareWrong)
+abbrev pub of_range : Verdict → Step
+of_range = of_verdict (number NoInterval)
 
-abbrev pub of_half : Half → Step
-of_half HalfWithin = passes
-of_half Above = refuses (number CeilingAboveHalf)
+abbrev pub of_share : Verdict → Step
+of_share = of_verdict (number ShareWrong)
 
-abbrev pub of_place : Place → Step
-of_place (At A) = gives A
-of_place Nowhere = refuses (number NoOpenAnchor)
+abbrev pub of_half : Verdict → Step
+of_half = of_verdict (number CeilingAboveHalf)
 
-abbrev pub of_plan : Plan → Step
-of_plan (PlanAt k A) = places k A
-of_plan (PlanRefused r) = refuses (number r)
+abbrev pub of_place : Option ℕ → Step
+of_place (Some A) = gives A
+of_place None = refuses (number NoOpenAnchor)
+
+abbrev pub of_plan : Result Plan Refusal → Step
+of_plan (Ok p) = places p.k p.anchor
+of_plan (Err r) = refuses (number r)
 
 -- ---- what each step answers
 -- By the largest bound alone: its own k.
@@ -72,7 +63,7 @@ share_step floor ceiling F = cond (share_wrong floor ceiling F) (refuses (number
 unfoldable pub half_step : ℕ → ℕ → Step
 half_step ceiling F = cond (ceiling_above_half ceiling F) (refuses (number CeilingAboveHalf)) passes
 
-abbrev pub place_at : ℕ → Option ℕ → Step
+abbrev pub place_at : ℕ → Found ℕ → Step
 place_at k none = refuses (number NoOpenAnchor)
 place_at k (some p) = gives (mirrored k p)
 

@@ -1,16 +1,14 @@
 //! Where an admission goes: checks 2, 4, 15, 5, 20, 6, and the search for the first open anchor.
 #![tactic(auto)]
 
-ghost use Rattle.std.specs.Prelude.{◌≡◌, ◌<◌, ◌≤◌, ◌^◌, length};
+ghost use Rattle.std.specs.Prelude.{◌≡◌, ◌<◌, ◌≤◌, ◌^◌, ℕ};
 ghost use Rattle.rules.specs.Ownership.{largest_k};
 ghost use Rattle.place.specs.Steps.{of_interval, of_smallest, of_range, of_share, of_half, interval_step, smallest_step, range_step, share_step, half_step};
 ghost use Rattle.tree.specs.Promises.{IsTree};
-ghost use Rattle.place.specs.Promises.{row_classes, Anchors, Measures, Lengthens, IsRoom, Searches, FindsFirst, Plans};
+ghost use Rattle.place.specs.Promises.{Anchors, StretchesBy, Measures, Lengthens, IsRoom};
+ghost use Rattle.place.specs.Promises.{Searches, FindsFirst, Plans};
 
-use rules::{
-    BLOCK_SLOTS, Half, Interval, LARGEST_K, LEAST_INTERVAL, Place, Plan, Range, Refusal, Share,
-    Smallest, TREE_BYTES,
-};
+use rules::{BLOCK_SLOTS, LARGEST_K, LEAST_INTERVAL, Plan, Refusal, TREE_BYTES, Verdict};
 use run::{class_at, factor};
 
 /// A row of the search has a place for each class of the largest factor.
@@ -20,160 +18,155 @@ pub const ROW_CLASSES: usize = 1 << LARGEST_K;
 const SHORT_RUN: u32 = 16;
 
 // The largest k, up to that of a connection, with 6 × 2^k not above the largest interval.
-fn k_of(largest: u32) -> Interval
+fn k_of(largest: u32) -> Option<u8>
     ensures { of_interval result ≡ interval_step largest }
 {
     match largest {
-        6..=11 => Interval::Gives(0),
-        12..=23 => Interval::Gives(1),
-        24..=47 => Interval::Gives(2),
-        48..=95 => Interval::Gives(3),
-        96..=191 => Interval::Gives(4),
-        192..=383 => Interval::Gives(5),
-        384..=767 => Interval::Gives(6),
-        768..=1535 => Interval::Gives(7),
-        1536..=3200 => Interval::Gives(LARGEST_K),
-        _ => Interval::Outside,
+        6..=11 => Some(0),
+        12..=23 => Some(1),
+        24..=47 => Some(2),
+        48..=95 => Some(3),
+        96..=191 => Some(4),
+        192..=383 => Some(5),
+        384..=767 => Some(6),
+        768..=1535 => Some(7),
+        1536..=3200 => Some(LARGEST_K),
+        _ => None,
     }
 }
 
 // The smallest interval is from the least that there is to the largest.
-fn smallest_of(smallest: u32, largest: u32) -> Smallest
+#[tactic(auto, unfolding(crate::specs::Steps::smallest_step))]
+fn smallest_of(smallest: u32, largest: u32) -> Verdict
     ensures { of_smallest result ≡ smallest_step smallest largest }
 {
     if smallest < LEAST_INTERVAL {
-        return Smallest::Outside;
+        return Verdict::Refuses;
     }
     if largest < smallest {
-        return Smallest::Outside;
+        return Verdict::Refuses;
     }
-    Smallest::Within
+    Verdict::Passes
 }
 
 // Where the longest interval up to the largest is below the smallest, none is in the range.
-fn range_of(smallest: u32, f: u32) -> Range
+#[tactic(auto, unfolding(crate::specs::Steps::range_step))]
+fn range_of(smallest: u32, f: u32) -> Verdict
     requires { f ≤ 2 ^ largest_k }
     ensures { of_range result ≡ range_step smallest f }
 {
     if BLOCK_SLOTS * f < smallest {
-        return Range::Misses;
+        return Verdict::Refuses;
     }
-    Range::Holds
+    Verdict::Passes
 }
 
-fn share_of(floor: u32, ceiling: u32, f: u32) -> Share
+#[tactic(auto, unfolding(crate::specs::Steps::share_step))]
+fn share_of(floor: u32, ceiling: u32, f: u32) -> Verdict
     ensures { of_share result ≡ share_step floor ceiling f }
 {
     if floor == 0 {
-        return Share::Wrong;
+        return Verdict::Refuses;
     }
     if ceiling < floor {
-        return Share::Wrong;
+        return Verdict::Refuses;
     }
     if f < ceiling {
-        return Share::Wrong;
+        return Verdict::Refuses;
     }
-    Share::Fits
+    Verdict::Passes
 }
 
 // Twice the ceiling is above F exactly if the ceiling is above half of F, rounded down: so nothing is doubled, and any two numbers will do.
-fn half_of(ceiling: u32, f: u32) -> Half
+#[tactic(auto, unfolding(crate::specs::Steps::half_step))]
+fn half_of(ceiling: u32, f: u32) -> Verdict
     ensures { of_half result ≡ half_step ceiling f }
 {
     if f / 2 < ceiling {
-        return Half::Above;
+        return Verdict::Refuses;
     }
-    Half::Within
+    Verdict::Passes
 }
 
 /// The anchors of a depth in node order. Those of places 2p and 2p + 1 are that of p, moved down a bit, without the highest
 /// bit and with it.
 pub fn list_anchors(k: u32, anchors: &mut [u16; ROW_CLASSES])
-    requires { (k ≤ largest_k) × (length anchors.old ≡ row_classes) }
+    requires { k ≤ largest_k }
     ensures { Anchors k anchors.new }
 {
-    let highest = factor(k) >> 1;
+    let highest = factor(k) as usize >> 1;
     anchors[0] = 0;
+    // by index: what is written at 2p and 2p + 1 is read again at a later p
     for p in 0..highest {
-        let half = anchors[p as usize] >> 1;
-        anchors[(2 * p) as usize] = half;
-        anchors[(2 * p + 1) as usize] = half + highest as u16;
+        let half = anchors[p] >> 1;
+        anchors[2 * p] = half;
+        anchors[2 * p + 1] = half + highest as u16;
     }
 }
 
-// How many classes are free from each one on, up to the last of the depth; none where it is taken. Mirrored twice a number
-// comes back, so that the place of class c is what the anchors have at c.
+// How many classes are free from each one on, up to the last of the depth; none where it is taken,
+// as `taken` says.
+fn stretches<F: Fn(usize) -> bool>(taken: F, k: u32, room: &mut [u16; ROW_CLASSES])
+    requires deep { k ≤ largest_k }
+    requires asked { (c : ℕ) → c < 2 ^ k → F.pre taken c }
+    ensures { StretchesBy k (F.post taken) room.new }
+{
+    let mut free: u16 = 0;
+    for c in (0..factor(k) as usize).rev() {
+        free = if taken(c) { 0 } else { free + 1 };
+        room[c] = free;
+    }
+}
+
+// The stretches by the tree. Mirrored twice a number comes back, so that the place of class c is
+// what the anchors have at c.
 fn measure(
     tree: &[u8; TREE_BYTES],
     anchors: &[u16; ROW_CLASSES],
     k: u32,
     room: &mut [u16; ROW_CLASSES],
 )
-    requires { (k ≤ largest_k) × Anchors k anchors.now × (length room.old ≡ row_classes) }
+    requires { (k ≤ largest_k) × Anchors k anchors.now }
     ensures { Measures k tree.now room.new }
 {
     let f = factor(k) as usize;
-    let mut c = f;
-    let mut free: u16 = 0;
-    while 0 < c {
-        c -= 1;
-        if tree::is_set(tree, f + anchors[c] as usize) {
-            free = 0;
-        } else {
-            free += 1;
-        }
-        room[c] = free;
-    }
+    stretches(|c| tree::is_set(tree, f + usize::from(anchors[c])), k, room);
 }
 
-// What is read from an array comes with no bound, what is handed over does.
-fn wide(classes: u16) -> u32
-    ensures { (result ≡ classes) × (result < 65536) }
+// The stretches by a row that says of each class no more than whether it is free.
+fn lengthen(row: &[u16; ROW_CLASSES], k: u32, room: &mut [u16; ROW_CLASSES])
+    requires { k ≤ largest_k }
+    ensures { Lengthens k row.now room.new }
 {
-    classes as u32
+    stretches(|c| row[c] == 0, k, room);
 }
 
 // The first anchor in node order whose whole run is free; a run is passed by its stretches of free classes.
-fn search(room: &[u16; ROW_CLASSES], anchors: &[u16; ROW_CLASSES], k: u32, floor: u32) -> Place
+fn search(
+    room: &[u16; ROW_CLASSES],
+    anchors: &[u16; ROW_CLASSES],
+    k: u32,
+    floor: u32,
+) -> Option<u16>
     requires { (k ≤ largest_k) × (1 ≤ floor) × (floor ≤ 2 ^ k) × Anchors k anchors.now × IsRoom k room.now }
     ensures { Searches k floor room.now result }
 {
-    let f = factor(k);
-    'nodes: for p in 0..f {
-        let a = anchors[p as usize];
-        let mut j = wide(room[a as usize]);
+    let f = factor(k) as usize;
+    'nodes: for &a in &anchors[..f] {
+        let mut j = u32::from(room[usize::from(a)]);
         if j == 0 {
             continue 'nodes;
         }
         while j < floor {
-            let free = wide(room[class_at(k, a as u32, j) as usize]);
+            let free = u32::from(room[class_at(k, u32::from(a), j) as usize]);
             if free == 0 {
                 continue 'nodes;
             }
             j += free;
         }
-        return Place::At(a);
+        return Some(a);
     }
-    Place::Nowhere
-}
-
-// How many classes are free from each one on, as `measure` has it, of a row that says of each no more than whether it is free.
-fn lengthen(row: &[u16; ROW_CLASSES], k: u32, room: &mut [u16; ROW_CLASSES])
-    requires { (k ≤ largest_k) × (length room.old ≡ row_classes) }
-    ensures { Lengthens k row.now room.new }
-{
-    let f = factor(k) as usize;
-    let mut c = f;
-    let mut free: u16 = 0;
-    while 0 < c {
-        c -= 1;
-        if row[c] == 0 {
-            free = 0;
-        } else {
-            free += 1;
-        }
-        room[c] = free;
-    }
+    None
 }
 
 /// The first anchor in node order whose whole run is free, over a row that says of each class whether it is. For a longer run the stretches are measured
@@ -183,7 +176,7 @@ pub fn search_row(
     anchors: &[u16; ROW_CLASSES],
     k: u32,
     floor: u32,
-) -> Place
+) -> Option<u16>
     requires { (k ≤ largest_k) × (1 ≤ floor) × (floor ≤ 2 ^ k) × Anchors k anchors.now × IsRoom k row.now }
     ensures { Searches k floor row.now result }
 {
@@ -196,7 +189,7 @@ pub fn search_row(
 }
 
 // The first open anchor, by the free stretches of the depth.
-fn first_by_stretches(tree: &[u8; TREE_BYTES], k: u32, floor: u32) -> Place
+fn first_by_stretches(tree: &[u8; TREE_BYTES], k: u32, floor: u32) -> Option<u16>
     requires { (k ≤ largest_k) × (1 ≤ floor) × (floor ≤ 2 ^ k) × IsTree tree.now }
     ensures { FindsFirst k floor tree.now result }
 {
@@ -209,7 +202,7 @@ fn first_by_stretches(tree: &[u8; TREE_BYTES], k: u32, floor: u32) -> Place
 
 // The first anchor in node order whose whole run is free, block by block. The node of its first block is its own place, so
 // that a taken one is passed with no mirror.
-fn first_by_blocks(tree: &[u8; TREE_BYTES], k: u32, floor: u32) -> Place
+fn first_by_blocks(tree: &[u8; TREE_BYTES], k: u32, floor: u32) -> Option<u16>
     requires { (k ≤ largest_k) × (1 ≤ floor) × (floor ≤ 2 ^ k) × IsTree tree.now }
     ensures { FindsFirst k floor tree.now result }
 {
@@ -224,14 +217,14 @@ fn first_by_blocks(tree: &[u8; TREE_BYTES], k: u32, floor: u32) -> Place
                 continue 'nodes;
             }
         }
-        return Place::At(a as u16);
+        return Some(a as u16);
     }
-    Place::Nowhere
+    None
 }
 
 // The first open anchor, or none. A run of one or two blocks needs no measuring; of a longer one the trials that fail late
 // would take more than that (docs/BENCH.md has the counts).
-fn first_open(tree: &[u8; TREE_BYTES], k: u32, floor: u32) -> Place
+fn first_open(tree: &[u8; TREE_BYTES], k: u32, floor: u32) -> Option<u16>
     requires { (k ≤ largest_k) × (1 ≤ floor) × (floor ≤ 2 ^ k) × IsTree tree.now }
     ensures { FindsFirst k floor tree.now result }
 {
@@ -249,31 +242,32 @@ pub fn plan(
     largest: u32,
     floor: u32,
     ceiling: u32,
-) -> Plan
+) -> Result<Plan, Refusal>
     requires { IsTree tree.now }
     ensures { Plans live smallest largest floor ceiling tree.now result }
 {
     if live {
-        return Plan::Refused(Refusal::HandleLive);
+        return Err(Refusal::HandleLive);
     }
-    let Interval::Gives(k) = k_of(largest) else {
-        return Plan::Refused(Refusal::IntervalOutside);
+    let Some(k) = k_of(largest) else {
+        return Err(Refusal::IntervalOutside);
     };
-    let Smallest::Within = smallest_of(smallest, largest) else {
-        return Plan::Refused(Refusal::IntervalOutside);
+    let Verdict::Passes = smallest_of(smallest, largest) else {
+        return Err(Refusal::IntervalOutside);
     };
-    let f = factor(k as u32);
-    let Range::Holds = range_of(smallest, f) else {
-        return Plan::Refused(Refusal::NoInterval);
+    let depth = u32::from(k);
+    let f = factor(depth);
+    let Verdict::Passes = range_of(smallest, f) else {
+        return Err(Refusal::NoInterval);
     };
-    let Share::Fits = share_of(floor, ceiling, f) else {
-        return Plan::Refused(Refusal::ShareWrong);
+    let Verdict::Passes = share_of(floor, ceiling, f) else {
+        return Err(Refusal::ShareWrong);
     };
-    let Half::Within = half_of(ceiling, f) else {
-        return Plan::Refused(Refusal::CeilingAboveHalf);
+    let Verdict::Passes = half_of(ceiling, f) else {
+        return Err(Refusal::CeilingAboveHalf);
     };
-    let Place::At(anchor) = first_open(tree, k as u32, floor) else {
-        return Plan::Refused(Refusal::NoOpenAnchor);
+    let Some(anchor) = first_open(tree, depth, floor) else {
+        return Err(Refusal::NoOpenAnchor);
     };
-    Plan::At(k, anchor)
+    Ok(Plan { k, anchor })
 }

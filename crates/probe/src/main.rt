@@ -5,14 +5,14 @@ ghost use Rattle.std.specs.Prelude.{◌≤◌, length};
 ghost use Rattle.rules.specs.Good.{Good};
 ghost use Rattle.script.specs.Performing.{most_printed};
 
-use input::{Input, read_all};
+use input::read_all;
 use lists::{LONGEST_ROW, MOST_ENTRIES, MOST_MOVES, perform_reports, perform_tidy};
 use order::Performed;
 use rules::Schedule;
 use schedule::fresh;
 use script::perform;
-use talk::{Told, perform_message};
-use text::{find, opens};
+use talk::perform_message;
+use text::{opens, split_line};
 
 // Performs a line: one that lends a list of numbers, one of a message, or any other.
 fn perform_line(s: Schedule, line: &[u8], bytes: &mut [u8], out: &mut [u8]) -> Performed
@@ -29,40 +29,35 @@ fn perform_line(s: Schedule, line: &[u8], bytes: &mut [u8], out: &mut [u8]) -> P
         return perform_tidy(s, line, &mut list, out);
     }
     match perform_message(line, bytes, out) {
-        Told::Count(count) => Performed { schedule: s, count },
-        Told::Other => perform(s, line, bytes, out),
+        Some(count) => Performed { schedule: s, count },
+        None => perform(s, line, bytes, out),
     }
 }
 
-// Performs each line and writes what it prints; a tail is a bad line. False where the output cannot be written.
+// Performs each line and writes what it prints; a tail is a bad line. False where the output cannot
+// be written.
 fn perform_all(rt: &impl Print, script: &[u8]) -> bool
     requires { length script.now ≤ 65536 }
 {
     let mut bytes = [0u8; 32768];
     let mut out = [0u8; 8192];
     let mut s = fresh();
-    let mut start = 0;
-    while start < script.len() {
-        let end = find(script, start, b'\n');
-        if end == script.len() {
-            return rt.write_all(b"bad\n").is_ok();
-        }
-        let done = perform_line(s, &script[start..end], &mut bytes, &mut out);
-        let count = done.count;
-        if rt.write_all(&out[..count]).is_err() {
+    let mut rest = script;
+    while let Some((line, later)) = split_line(rest) {
+        let done = perform_line(s, line, &mut bytes, &mut out);
+        if rt.write_all(&out[..done.count]).is_err() {
             return false;
         }
         s = done.schedule;
-        start = end + 1;
+        rest = later;
     }
-    true
+    rest.is_empty() || rt.write_all(b"bad\n").is_ok()
 }
 
 fn main(rt: HostRuntime) {
     // one byte more than a script may have
     let mut buffer = [0u8; 65537];
-    let input = read_all(&mut rt.stdin(), &mut buffer);
-    let Input::Bytes(n) = input else {
+    let Ok(n) = read_all(&mut rt.stdin(), &mut buffer) else {
         let _ = eprintln!(rt; "probe: standard input cannot be read");
         return;
     };

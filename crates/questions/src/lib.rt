@@ -7,11 +7,8 @@ ghost use Rattle.rules.specs.Ownership.{owns as owns_block};
 ghost use Rattle.rules.specs.Sound.{Numbers};
 ghost use Rattle.questions.specs.Promises.{OwnerSays, AnchorSays};
 
-use rules::{
-    BLOCK_SLOTS, Connection, DEPTH, Distance, HANDLES, LAST_HANDLE, LIST_BLOCKS, Ownership,
-    Refusal, Schedule,
-};
-use run::minus_mod;
+use rules::{BLOCK_SLOTS, Connection, DEPTH, HANDLES, LIST_BLOCKS, Refusal, Schedule};
+use run::{live_connection, minus_mod};
 
 // Whether the block belongs to the connection, and the connection is live.
 fn owns(c: Connection, block: u32) -> bool
@@ -25,34 +22,28 @@ fn owns(c: Connection, block: u32) -> bool
     }
 }
 
-/// The handle of the connection that the block belongs to, or idle.
-pub fn owner(s: Schedule, block: u32) -> Ownership
+/// The handle of the connection that the block belongs to; none where it is idle.
+pub fn owner(s: Schedule, block: u32) -> Option<u8>
     requires { Good s }
     ensures { OwnerSays s block result }
 {
     // the block's leaf says idle at once
     if tree::is_free(&s.tree.bytes, DEPTH, block % LIST_BLOCKS as u32) {
-        return Ownership::Idle;
+        return None;
     }
-    for h in 0..HANDLES {
-        if owns(s.connections[h], block) {
-            return Ownership::Handle(h as u8);
+    for (h, c) in s.connections.iter().enumerate() {
+        if owns(*c, block) {
+            return Some(h as u8);
         }
     }
-    Ownership::Idle
+    None
 }
 
 /// Slots from the start of the block to the connection's next anchor.
-pub fn anchor(s: Schedule, handle: u32, block: u32) -> Distance
+pub fn anchor(s: Schedule, handle: u32, block: u32) -> Result<u32, Refusal>
     requires { Good s }
     ensures { AnchorSays s handle block result }
 {
-    if LAST_HANDLE < handle {
-        return Distance::Refused(Refusal::HandleAbove63);
-    }
-    let c = s.connections[handle as usize];
-    if c.live {
-        return Distance::Slots(BLOCK_SLOTS * minus_mod(c.k as u32, c.anchor, block));
-    }
-    Distance::Refused(Refusal::HandleNotLive)
+    let c = live_connection(&s, handle)?;
+    Ok(BLOCK_SLOTS * minus_mod(c.k as u32, c.anchor, block))
 }

@@ -10,7 +10,9 @@ use lib.ListN.{length, get_or, take, set}
 use lib.Seq.{take-suc, take-suc-set, take_all, length-take-le}
 use Rattle.rules.specs.declared.Schedule.{Schedule}
 use Rattle.rules.specs.declared.Report.{Report}
-use Rattle.rules.specs.declared.ReportedAll.{ReportedAll}
+use Rattle.std.specs.Prelude.{Result}
+use Rattle.rules.specs.declared.Refusal.{Refusal}
+use Rattle.rules.specs.declared.Done.{Done}
 use Rattle.rules.specs.Reports.{most_reports, report_all}
 use Rattle.calls.proofs.ReportsLaws.{report_all_13}
 use Rattle.reports.specs.Pairs.{reports_of}
@@ -46,7 +48,7 @@ gather_next reports xs i r p h l e =
     ∙ sym (ap (λ (k : ℕ). take k xs) (add-one i) ∙ take-suc xs i r l)
 
 -- What the call does with the reports that are gathered is what it does with all: they are all, or it is refused with 13 either way.
-pub gathered_all : (s : Schedule) (ns ys zs : List ℕ) (xs : List Report) (r : ReportedAll) → xs ≡ take (gathered_of (length ns)) (reports_of ns)
+pub gathered_all : (s : Schedule) (ns ys zs : List ℕ) (xs : List Report) (r : Done (Result ℕ Refusal)) → xs ≡ take (gathered_of (length ns)) (reports_of ns)
     → ReportsAll s xs ys zs r → ReportsAll s (reports_of ns) ys zs r
 gathered_all s ns ys zs xs r e p = record { is = p.is ∙ ap (λ (l : List Report). report_all s l ys) e ∙ same; good = p.good }
   where

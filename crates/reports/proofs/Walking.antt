@@ -1,24 +1,24 @@
 -- What holds after i turns of the loop, before the first and after the last.
-use mathlib.Core.Path.{◌≡◌, refl, sym, ap, ap₂, ◌∙◌, subst⁻¹}
+use mathlib.Core.Path.{◌≡◌, refl, sym, ap, ap₂, ◌∙◌}
+use mathlib.Core.Bool.{true, false, false≢true}
+use Rattle.std.specs.Prelude.{Result, Ok, Err, is_ok}
 use mathlib.Core.List.{List, [], ◌∷◌, ◌++◌, map, map-append}
 use Prim.Native.Nat.{ℕ, ◌+◌, ◌<◌, ◌≤◌}
 use native.Mathlib.Numerals.{add-one}
 use native.Mathlib.Omega.{arith}
 use lib.ListN.{length, get_or, take, set}
-use borrow.Author.Tests.{ltb-false}
 use lib.Seq.{take-suc, take_all, length-take-le}
 use Rattle.rules.specs.declared.Schedule.{Schedule}
 use Rattle.rules.specs.declared.Report.{Report}
-use Rattle.rules.specs.declared.ReportedAll.{ReportedAll}
+use Rattle.rules.specs.declared.Refusal.{Refusal}
 use Rattle.rules.specs.Good.{Good}
 use Rattle.rules.specs.Lent.{over}
-use Rattle.rules.specs.Refusals.{decided}
-use Rattle.rules.specs.Answers.{Answer, Listed, refusing_list, refused, reported}
-use Rattle.rules.specs.Reports.{single, after_reports, answers_to, coded, reports_checks, reports_done, report_all}
+use Rattle.rules.specs.Refusals.{number}
+use Rattle.rules.specs.Answers.{Answer, Listed, refused, reported, of_reporting_all, listed}
+use Rattle.rules.specs.Reports.{most_reports, single, after_reports, answers_to, coded, reports_done, report_all}
 use Rattle.basics.proofs.LentLaws.{over_next, over_length}
-use Rattle.calls.proofs.RefusalLaws.{decided_cases, decided_both}
-use Rattle.calls.proofs.ReportsLaws.{codes, codes_length, after_append, answers_append, after_good, decided_13, decided_14, decided_ok, by_lengths, accepted}
-use Rattle.reports.specs.Promises.{ReportsAll, turns_of, Makes}
+use Rattle.calls.proofs.ReportsLaws.{codes, codes_length, after_append, answers_append, after_good, decided_13, decided_14, decided_ok, by_lengths, accepted, report_all_13, report_all_14, report_all_ok}
+use Rattle.reports.specs.Promises.{Answers, ReportsAll}
 
 module _ (s : Schedule) (xs : List Report) where
   -- The schedule after i turns,
@@ -70,59 +70,44 @@ module _ (s : Schedule) (xs : List Report) where
         ∙ over_next done ys (coded new) (omega (arith, e))
         ∙ ap (λ (l : List ℕ). over l ys) (sym (ap (λ (l : List Report). map coded (answers_to s l)) taken_next ∙ ap (map coded) (answers_append s (take i xs) (get_or xs i d ∷ [])) ∙ map-append coded (answers_to s (take i xs)) (new ∷ [])))
 
--- ---- how many turns there are
-pub turns_reports : (n m : ℕ) → turns_of n m ≤ n
-unfolding turns_of
-turns_reports n m = decided_cases (λ (k : ℕ). k ≤ n) (reports_checks n m) (λ _. 0) n (λ why. omega arith) (λ p. omega arith)
-
-pub turns_entries : (n m : ℕ) → turns_of n m ≤ m
-unfolding turns_of
-turns_entries n m = decided_cases (λ (k : ℕ). k ≤ m) (reports_checks n m) (λ _. 0) n (λ why. omega arith) (λ p. ltb-false m n p.1.0)
-
--- As many as the answer says, or none.
-pub turns_answered : (n m k : ℕ) → reported k ≡ decided (reports_checks n m) refused (reported n) → k ≡ turns_of n m
-unfolding turns_of
-turns_answered n m k e =
+-- ---- the answer, by the two lengths
+pub accepted_fits : (n m : ℕ) (r : Result ℕ Refusal) → Answers n m r → is_ok r ≡ true → (n ≤ most_reports) × (n ≤ m)
+accepted_fits n m (Err r) e q = absurd (false≢true q)
+accepted_fits n m (Ok k) e q =
     by_lengths n m
     (λ l. absurd (accepted k 13 (e ∙ decided_13 n m refused (reported n) l)))
     (λ h l. absurd (accepted k 14 (e ∙ decided_14 n m refused (reported n) h l)))
-    (λ h l. same (e ∙ decided_ok n m refused (reported n) h l) ∙ sym (decided_ok n m (λ _. 0) n h l))
-  where
-    same : {a b : ℕ} → reported a ≡ reported b → a ≡ b
-    same q = cc
-
-pub turns_refused : (n m k : ℕ) → refused k ≡ decided (reports_checks n m) refused (reported n) → 0 ≡ turns_of n m
-unfolding turns_of
-turns_refused n m k e =
-    by_lengths n m
-    (λ l. sym (decided_13 n m (λ _. 0) n l))
-    (λ h l. sym (decided_14 n m (λ _. 0) n h l))
-    (λ h l. absurd (accepted n k (sym (e ∙ decided_ok n m refused (reported n) h l))))
+    (λ h l. (h, l))
 
 -- ---- the end
 module _ (s : Schedule) (good : Good s) (xs : List Report) (ys : List ℕ) where
-  abbrev n : ℕ
-  n = turns_of (length xs) (length ys)
-
-  -- What k turns leave, with an answer.
-  abbrev ended : ℕ → Answer → Listed
-  ended k a = record { answer = a; schedule = state_at s xs k; list = list_at s xs ys k }
-
-  -- What the last turn left, with the answer that the lengths give, is the rule's.
-  last : ended n (decided (reports_checks (length xs) (length ys)) refused (reported (length xs))) ≡ report_all s xs ys
-  unfolding turns_of report_all reports_done state_at list_at
-  last =
-      decided_both (λ (k : ℕ) (a : Answer). ended k a) (reports_checks (length xs) (length ys)) (λ _. 0) (length xs) refused (reported (length xs))
-      (refusing_list s ys) (reports_done s xs ys)
-      (λ m. ap₂ (λ (t : Schedule) (l : List ℕ). record { answer = refused m; schedule = t; list = l }) (state_0 s xs) (list_0 s xs ys))
-      whole
-    where
-      whole : ended (length xs) (reported (length xs)) ≡ reports_done s xs ys
-      whole = ap (λ (l : List Report). record { answer = reported (length xs); schedule = after_reports s l; list = over (codes s l) ys }) (take_all (length xs) xs (omega arith))
-
-  pub walked_all : (r : ReportedAll) → Makes (length xs) (length ys) (state_at s xs n) r → ReportsAll s xs ys (list_at s xs ys n) r
-  walked_all r m =
+  -- An accepted list: every report is made,
+  pub made_all : (r : Result ℕ Refusal) → Answers (length xs) (length ys) r → is_ok r ≡ true
+      → ReportsAll s xs ys (list_at s xs ys (length xs)) (record { answer = r; schedule = state_at s xs (length xs) })
+  unfolding report_all reports_done state_at list_at
+  made_all r e q =
+      let f = accepted_fits (length xs) (length ys) r e q in
+      let whole : take (length xs) xs ≡ xs = take_all (length xs) xs (omega arith) in
       record {
-        is = ap₂ (λ (a : Answer) (t : Schedule). record { answer = a; schedule = t; list = list_at s xs ys n }) m.answer m.schedule ∙ last;
-        good = subst⁻¹ Good m.schedule (state_good s xs good n);
+        is = ap₂ (λ (a : Answer) (l : List Report). record { answer = a; schedule = after_reports s l; list = over (codes s l) ys })
+            (e ∙ decided_ok (length xs) (length ys) refused (reported (length xs)) f.0 f.1) whole
+            ∙ sym (report_all_ok s xs ys f.0 f.1);
+        good = after_good s (take (length xs) xs) good;
       }
+
+  -- and a refused one: none.
+  pub made_none : (r : Result ℕ Refusal) → Answers (length xs) (length ys) r → is_ok r ≡ false
+      → ReportsAll s xs ys ys (record { answer = r; schedule = s })
+  made_none r e q = record { is = listed_refused r e q; good = good }
+    where
+      listed_refused : (r : Result ℕ Refusal) → Answers (length xs) (length ys) r → is_ok r ≡ false
+          → listed of_reporting_all (record { answer = r; schedule = s }) ys ≡ report_all s xs ys
+      listed_refused (Ok k) e q = absurd (false≢true (sym q))
+      listed_refused (Err r) e q =
+          let n = length xs in
+          let m = length ys in
+          let left : Answer → Listed = λ a. record { answer = a; schedule = s; list = ys } in
+          by_lengths n m
+          (λ l. ap left (e ∙ decided_13 n m refused (reported n) l) ∙ sym (report_all_13 s xs ys l))
+          (λ h l. ap left (e ∙ decided_14 n m refused (reported n) h l) ∙ sym (report_all_14 s xs ys h l))
+          (λ h l. absurd (accepted n (number r) (sym (e ∙ decided_ok n m refused (reported n) h l))))

@@ -3,7 +3,7 @@ ghost use Rattle.std.specs.Prelude.{◌≡◌};
 ghost use Rattle.rules.specs.Answers.{of_reporting};
 ghost use Rattle.rules.specs.Reports.{coded};
 
-use rules::Reporting;
+use rules::{Adjusted, Refusal};
 use text::refusal_number;
 
 // What stands before the length: above every length and every refusal's number.
@@ -15,14 +15,14 @@ const SHRUNK: u32 = 3 * KEPT;
 
 const TIGHT: u32 = 4 * KEPT;
 
-pub fn code_of(answer: Reporting) -> u32
+pub fn code_of(answer: Result<Adjusted, Refusal>) -> u32
     ensures { result ≡ coded (of_reporting answer) }
 {
     match answer {
-        Reporting::Kept(length) => KEPT + length as u32,
-        Reporting::Grown(length) => GROWN + length as u32,
-        Reporting::Shrunk(length) => SHRUNK + length as u32,
-        Reporting::Tight(length) => TIGHT + length as u32,
-        Reporting::Refused(r) => refusal_number(r),
+        Ok(Adjusted::Kept(length)) => KEPT + length as u32,
+        Ok(Adjusted::Grown(length)) => GROWN + length as u32,
+        Ok(Adjusted::Shrunk(length)) => SHRUNK + length as u32,
+        Ok(Adjusted::Tight(length)) => TIGHT + length as u32,
+        Err(r) => refusal_number(r),
     }
 }

@@ -4,7 +4,6 @@
 mod coding;
 mod listing;
 mod pairing;
-mod turning;
 
 pub use listing::report_all;
 pub use pairing::report_pairs;

@@ -6,7 +6,7 @@ ghost use Rattle.reports.specs.Pairs.{reports_of};
 ghost use Rattle.reports.specs.Promises.{gathered_of, ReportsAll};
 
 use crate::listing::report_all;
-use rules::{MOST_REPORTS, Report, ReportedAll, Schedule};
+use rules::{Done, MOST_REPORTS, Refusal, Report, Schedule};
 
 // One more than a list may have: of so many the call is refused, whatever they say.
 const GATHERED: usize = MOST_REPORTS + 1;
@@ -16,7 +16,7 @@ fn gathered(numbers: usize) -> usize
     ensures { result ≡ gathered_of numbers }
 {
     let n = numbers / 2;
-    if n < GATHERED { n } else { GATHERED }
+    n.min(GATHERED)
 }
 
 // The first reports that the numbers say.
@@ -39,7 +39,7 @@ fn gather(numbers: &[u32], n: usize) -> [Report; GATHERED]
 }
 
 /// Makes the reports that the numbers say; a last odd number is none.
-pub fn report_pairs(s: Schedule, numbers: &[u32], answers: &mut [u32]) -> ReportedAll
+pub fn report_pairs(s: Schedule, numbers: &[u32], answers: &mut [u32]) -> Done<Result<u8, Refusal>>
     requires { Good s }
     ensures { ReportsAll s (reports_of numbers.now) answers.old answers.new result }
 {

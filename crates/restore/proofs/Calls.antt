@@ -1,16 +1,17 @@
 -- The laws of the promise.
-use mathlib.Core.Path.{◌≡◌, refl, sym, ap, ◌∙◌}
-use mathlib.Core.Bool.{Bool, true, false, cond}
+use mathlib.Core.Path.{◌≡◌, refl, ap, ◌∙◌}
+use mathlib.Core.Bool.{Bool, true, false}
+use mathlib.Core.Logic.{◌⊎◌, inl, inr}
 use mathlib.Core.List.{List}
 use Prim.Native.Nat.{ℕ, suc, ◌<◌, ◌≤◌}
 use native.Mathlib.Omega.{arith}
-use lib.Dec.{eqb}
 use lib.ListN.{length, take}
 use lib.Seq.{take-length}
-use Rattle.rules.specs.declared.Restored.{Restored}
+use Rattle.std.specs.Prelude.{Result, Ok, Err}
+use Rattle.rules.specs.declared.Refusal.{Refusal}
 use Rattle.rules.specs.declared.Refusal.TheVariants.{NumbersUnsound, FactorIllegal}
-use Rattle.rules.specs.declared.Soundness.{Soundness}
-use Rattle.rules.specs.declared.Soundness.TheVariants.{Sound, Illegal, Unsound}
+use Rattle.restore.specs.declared.Restored.{Restored}
+use Rattle.calls.proofs.AnswerLaws.{number_injective}
 use Rattle.rules.specs.Ownership.{largest_k}
 use Rattle.rules.specs.Sound.{apart}
 use Rattle.rules.specs.Good.{fresh, with_connections}
@@ -37,11 +38,11 @@ module _ (rs : List Piece) where
   most_clash i l e a c = most_is i (omega arith) a (λ j h m. clash_first rs e j (suc i) (omega arith) m c)
 
 -- Where all are apart, all are restored.
-pub restores_apart : (bytes : List ℕ) (r : Restored) → Restores bytes r → r.apart ≡ true
+pub restores_apart : (bytes : List ℕ) (r : Restored) → Restores bytes (Ok r)
     → (r.schedule ≡ with_connections fresh (at_handles (records bytes))) × (r.end ≡ begin (pieces_of bytes) (suc (length (records bytes))))
-restores_apart bytes r p t =
+restores_apart bytes r p =
     let rs = records bytes in
-    let e : most_apart rs ≡ length rs = most_all rs (sym p.says ∙ t) in
+    let e : most_apart rs ≡ length rs = most_all rs p.says in
     (p.is ∙ ap (λ (k : ℕ). with_connections fresh (at_handles (take k rs))) e ∙ ap (λ (xs : List Piece). with_connections fresh (at_handles xs)) (take-length rs), p.ends ∙ ap (λ (k : ℕ). begin (pieces_of bytes) (suc k)) e)
 
 -- ---- what each case of the check of the records tells
@@ -78,18 +79,29 @@ module _ (rs : List Piece) where
   unfolding records_step
   checked_unsound e = step_unsound (records_within largest_record_k rs) (any_illegal rs) e
 
--- No two cases have one number.
-soundness_of : Step → Soundness
-soundness_of (gives n) = Unsound
-soundness_of (places k A) = Unsound
-soundness_of passes = Sound
-soundness_of (refuses n) = cond (eqb n (number FactorIllegal)) Illegal Unsound
+-- The number of a refusal.
+refused_number : Step → ℕ
+refused_number (gives n) = 0
+refused_number (places k A) = 0
+refused_number passes = 0
+refused_number (refuses n) = n
 
-soundness_back : (x : Soundness) → soundness_of (of_soundness x) ≡ x
-unfolding soundness_of
-soundness_back Sound = refl
-soundness_back Illegal = refl
-soundness_back Unsound = refl
+-- It refuses by no other number than these two.
+step_refuses : (m : ℕ) (v d : Bool) → refuses m ≡ checked v d → ((m ≡ number NumbersUnsound) × (v ≡ false)) ⊎ ((m ≡ number FactorIllegal) × (v ≡ true) × (d ≡ true))
+unfolding checked refused_number
+step_refuses m true true e = inr (ap refused_number e, refl, refl)
+step_refuses m true false e = let z : ◌≡◌ {A = ℕ} 0 1 = cc in absurd (omega arith)
+step_refuses m false d e = inl (ap refused_number e, refl)
 
-pub checked_unique : (x y : Soundness) → of_soundness x ≡ of_soundness y → x ≡ y
-checked_unique x y e = sym (soundness_back x) ∙ ap soundness_of e ∙ soundness_back y
+pub checked_refuses : (rs : List Piece) (m : ℕ) → refuses m ≡ records_step rs
+    → ((m ≡ number NumbersUnsound) × (records_within largest_record_k rs ≡ false)) ⊎ ((m ≡ number FactorIllegal) × (records_within largest_record_k rs ≡ true) × (any_illegal rs ≡ true))
+unfolding records_step
+checked_refuses rs m e = step_refuses m (records_within largest_record_k rs) (any_illegal rs) e
+
+-- No two answers have one number.
+pub checked_unique : (x y : Result (Unit {0}) Refusal) → of_soundness x ≡ of_soundness y → x ≡ y
+unfolding refused_number
+checked_unique (Ok u) (Ok v) e = refl
+checked_unique (Ok u) (Err r) e = let z : ◌≡◌ {A = ℕ} 0 1 = cc in absurd (omega arith)
+checked_unique (Err q) (Ok v) e = let z : ◌≡◌ {A = ℕ} 0 1 = cc in absurd (omega arith)
+checked_unique (Err q) (Err r) e = ap Err (number_injective q r (ap refused_number e))

@@ -1,69 +1,80 @@
 -- The records of the connections in the bytes of an image, and the test of their numbers.
-use mathlib.Core.Path.{◌≡◌, sym, ap, ap₂, ◌∙◌}
+use mathlib.Core.Path.{◌≡◌, refl, sym, ap, ap₂, ◌∙◌, subst}
 use mathlib.Core.Bool.{Bool, true, false, ◌||◌, or_assoc, or-false}
-use mathlib.Core.List.{List, ◌∷◌}
-use Prim.Native.Nat.{ℕ, suc, ◌+◌, ◌^◌, ◌<◌, ◌≤◌}
+use mathlib.Core.List.{List, ◌∷◌, ◌++◌}
+use Prim.Native.Nat.{ℕ, zero, suc, ◌+◌, ◌*◌, ◌<◌, ◌≤◌}
 use native.Mathlib.Numerals.{add-one}
 use native.Mathlib.Omega.{arith}
-use lib.ListN.{length, take, drop, length-take, length-drop, drop_of_length-le}
-use lib.Seq.{drop-cons}
+use mir.Syntax.{w8}
+use mir.Val.{Fits}
+use lib.ListN.{length, get_or, take, drop, drop_of_length-le}
+use lib.Seq.{drop-cons, take_all}
+use Rattle.std.specs.Prelude.{Result, Ok, Err}
+use Rattle.rules.specs.declared.Refusal.{Refusal}
 use lib.Dec.{ltb}
-use Rattle.rules.specs.declared.Connection.{Connection}
-use Rattle.rules.specs.declared.Refusal.TheVariants.{NumbersUnsound}
+use Rattle.std.proofs.Common.{lt-ltb, le-ltb}
+use Rattle.rules.specs.declared.Refusal.TheVariants.{NumbersUnsound, FactorIllegal}
 use Rattle.rules.specs.Ownership.{handles, largest_k}
-use Rattle.rules.specs.Sound.{NumbersWithin, numbers_within}
+use Rattle.rules.specs.Sound.{numbers_within}
 use Rattle.rules.specs.Refusals.{number}
 use Rattle.rules.specs.Steps.{refuses}
-use Rattle.rules.specs.Bytes.{little_number}
-use Rattle.rules.specs.Records.{Piece, begin, pieces_of}
-use Rattle.rules.specs.Form.{connection_size}
+use Rattle.rules.specs.Records.{Piece, bytes_of, joined, begin, pieces_of}
 use Rattle.rules.specs.Framing.{Framed}
-use Rattle.rules.specs.Fields.{field_in, handle_in, connection_in}
+use Rattle.rules.specs.Fields.{handle_in, connection_in}
 use Rattle.rules.specs.Load.{largest_record_k, any_illegal}
-use Rattle.basics.proofs.BoolLaws.{is_false}
-use Rattle.basics.proofs.BytesLaws.{AllBytes, bytes_take, bytes_drop, number_lt}
-use Rattle.blocks.proofs.SoundLaws.{numbers_within_lem}
+use Rattle.basics.proofs.BytesLaws.{AllBytes}
 use Rattle.images.proofs.RisingLaws.{sound_from, sound_from_lem, pieces_pass, handle_above, handle_falls, numbers_fail}
-use Rattle.images.proofs.PieceLaws.{nth, stands_whole, stands_part}
-use Rattle.images.proofs.FrameLaws.{next_first, first_whole, connection_stands, connection_sized, next_connection}
-use Rattle.restore.specs.LoadSteps.{checked, records_step}
-use Rattle.restore.specs.Promises.{GoesOn, Reads, records}
+use Rattle.images.proofs.PieceLaws.{nth, begin_next, stands_whole, stands_size, stands_part}
+use Rattle.images.proofs.FrameLaws.{framed_exactly, connections_long, tree_place, connection_stands, connection_sized, next_connection}
+use Rattle.restore.specs.LoadSteps.{of_soundness, checked, records_step}
+use Rattle.restore.specs.Promises.{records}
 
--- ---- a number of a record
-pub field_read : (bytes : List ℕ) (at start width r : ℕ) → start + width ≤ connection_size → at + (4 + connection_size) ≤ length bytes → AllBytes bytes
-    → r ≡ little_number (take width (drop (at + 4 + start) bytes)) → Reads (λ p. field_in p start width) bytes at r × (r < 256 ^ width)
-field_read bytes at start width r h l b e =
-    let part = take width (drop (at + 4 + start) bytes) in
-    let long : length part ≡ width = simp (length-take, length-drop) (omega arith) in
-    let small : little_number part < 256 ^ width = rw long at (number_lt part (bytes_take width _ (bytes_drop (at + 4 + start) bytes b))) in
-    (λ p g. e ∙ ap little_number (stands_part bytes at p g.later g.here start width (omega (arith, g.size))), rw e small)
+-- ---- where the record of connection i is
+module _ (bytes : List ℕ) (n : ℕ) (f : Framed bytes n) (fits : (i : ℕ) → Fits w8 (get_or bytes i 0)) where
+  small : AllBytes bytes
+  small i = (fits i).fits
 
--- ---- the cursor: before the record of connection i, and after the last
-abbrev pub Cursor : List ℕ → ℕ → ℕ → Type 0
-Cursor bytes i cursor = cursor ≡ begin (pieces_of bytes) (suc i)
+  pub long : length (records bytes) ≡ n
+  long = connections_long bytes n f small
 
-module _ (bytes : List ℕ) (n : ℕ) (f : Framed bytes n) (small : AllBytes bytes) where
-  pub room_first : 0 + 4 ≤ length bytes
-  room_first = omega (arith, first_whole bytes n f small)
+  -- The records before it have the sizes that the frame asks for.
+  pub begins : (i : ℕ) → i ≤ n → begin (pieces_of bytes) (suc i) ≡ 6 + i * 18
+  unfolding joined
+  begins zero l =
+      let p = (framed_exactly bytes n f).parts in
+      let some : 0 < length (pieces_of bytes) = omega (arith, ap {B = ℕ} length p.whole) in
+      let first = ap (λ (rs : List Piece). length (nth rs 0).payload) p.whole ∙ p.counts.size_is in
+      omega (arith, begin_next (pieces_of bytes) 0 some, first)
+  begins (suc i) l =
+      let sized = connection_sized bytes n f small i l in
+      let stands = connection_stands bytes n f small i l in
+      let says = stands_size bytes _ (nth (records bytes) i) _ stands (omega (arith, sized)) in
+      omega (arith, begins i (omega arith), next_connection bytes n f small i l, says, sized)
 
-  pub cursor_first : (cursor : ℕ) → cursor ≡ 0 + (4 + little_number (take 2 (drop 0 bytes))) → Cursor bytes 0 cursor
-  cursor_first cursor e = e ∙ sym (next_first bytes n f small)
+  -- The last ends within the bytes.
+  pub end_room : 6 + n * 18 ≤ length bytes
+  end_room = omega (arith, begins n (omega arith), tree_place bytes n f small)
 
-  module _ (i : ℕ) (l : i < n) (cursor : ℕ) (at : Cursor bytes i cursor) where
-    -- The record of connection i is there.
-    pub goes_on_lem : GoesOn bytes cursor (nth (records bytes) i)
-    goes_on_lem = record { later = _; here = ap (λ (k : ℕ). drop k bytes) at ∙ connection_stands bytes n f small i l; size = connection_sized bytes n f small i l }
+  module _ (i : ℕ) (l : i < n) where
+    -- What `payload` asks.
+    pub inside : Framed bytes (length (records bytes)) × (i < length (records bytes))
+    inside = (subst (Framed bytes) (sym long) f, omega (arith, long))
 
-    pub cursor_room : cursor + (4 + connection_size) ≤ length bytes
-    cursor_room = omega (arith, stands_whole bytes cursor (nth (records bytes) i) goes_on_lem.later goes_on_lem.here, goes_on_lem.size)
+    here : drop (6 + i * 18) bytes ≡ bytes_of (nth (records bytes) i) ++ joined (drop (suc (suc i)) (pieces_of bytes))
+    here = ap (λ (k : ℕ). drop k bytes) (sym (begins i (omega arith))) ∙ connection_stands bytes n f small i l
 
-    pub cursor_next : (next : ℕ) → next ≡ cursor + (4 + little_number (take 2 (drop cursor bytes))) → Cursor bytes (i + 1) next
-    cursor_next next e =
-        rw (add-one i) (e ∙ ap (λ (k : ℕ). k + (4 + little_number (take 2 (drop k bytes)))) at ∙ sym (next_connection bytes n f small i l))
+    pub payload_room : 6 + i * 18 + 4 + 14 ≤ length bytes
+    payload_room =
+        let whole = stands_whole bytes (6 + i * 18) (nth (records bytes) i) _ here in
+        omega (arith, whole, connection_sized bytes n f small i l)
 
--- ---- the numbers of a connection
-pub unsound : (c : Connection) → (NumbersWithin largest_record_k c → ⊥) → numbers_within largest_record_k c ≡ false
-unsound c n = is_false (numbers_within largest_record_k c) (λ e. n ((numbers_within_lem largest_record_k c).0 e))
+    pub payload_is : take 14 (drop (6 + i * 18 + 4) bytes) ≡ (nth (records bytes) i).payload
+    payload_is =
+        let sized = connection_sized bytes n f small i l in
+        let e : 6 + i * 18 + 4 ≡ 6 + i * 18 + 4 + 0 = omega arith in
+        ap (λ (k : ℕ). take 14 (drop k bytes)) e
+        ∙ stands_part bytes (6 + i * 18) (nth (records bytes) i) _ here 0 14 (omega (arith, sized))
+        ∙ take_all 14 (nth (records bytes) i).payload (omega (arith, sized))
 
 -- ---- both checks up to record i: what they say is what they say of the records from i on, where `illegal` says whether a k above 8 was seen
 abbrev pub Tested : List Piece → ℕ → ℕ → Bool → Type 0
@@ -101,10 +112,31 @@ module _ (rs : List Piece) (i least h : ℕ) (illegal : Bool) (l : i < length rs
       (pieces_pass largest_record_k least (nth rs i) (drop (suc i) rs) (omega arith) (omega arith) s)
       (sym (or_assoc illegal (ltb largest_k (connection_in (nth rs i)).k) (any_illegal (drop (suc i) rs)))))
 
+-- What was seen of k is the answer, where no record is unsound.
+abbrev pub answer_of : Bool → Result (Unit {0}) Refusal
+answer_of true = Err FactorIllegal
+answer_of false = Ok tt
+
+seen : (v : Bool) → v || true ≡ true
+seen true = refl
+seen false = refl
+
+pub said_above : (illegal : Bool) (k : ℕ) → largest_k < k → Err FactorIllegal ≡ answer_of (illegal || ltb largest_k k)
+said_above illegal k l = rw (lt-ltb largest_k k l, seen illegal) refl
+
+pub said_within : (illegal : Bool) (k : ℕ) → k ≤ largest_k → answer_of illegal ≡ answer_of (illegal || ltb largest_k k)
+said_within illegal k l = rw (le-ltb largest_k k l, or-false illegal) refl
+
+answered : (v : Bool) → of_soundness (answer_of v) ≡ checked true v
+unfolding checked
+answered true = refl
+answered false = refl
+
 -- No record is left: what was seen decides.
-pub tested_all : (rs : List Piece) (i least : ℕ) (illegal v : Bool) → length rs ≤ i → Tested rs i least illegal → illegal ≡ v → checked true v ≡ records_step rs
+pub tested_all : (rs : List Piece) (i least : ℕ) (illegal : Bool) → length rs ≤ i → Tested rs i least illegal → of_soundness (answer_of illegal) ≡ records_step rs
 unfolding sound_from any_illegal
-tested_all rs i least illegal v l t e =
-    sym (t
+tested_all rs i least illegal l t =
+    answered illegal
+    ∙ sym (t
     ∙ ap (λ (xs : List Piece). checked (sound_from largest_record_k least xs) (illegal || any_illegal xs)) (drop_of_length-le rs l)
-    ∙ ap (checked true) (or-false illegal ∙ e))
+    ∙ ap (checked true) (or-false illegal))

@@ -1,17 +1,15 @@
 -- The step of a load that reads the numbers of the records: the number of each of its cases, and what it says.
-use Rattle.std.specs.Prelude.{Bool, not, List, [], ◌∷◌}
-use Rattle.rules.specs.declared.Soundness.{Soundness}
-use Rattle.rules.specs.declared.Soundness.TheVariants.{Sound, Illegal, Unsound}
+use Rattle.std.specs.Prelude.{Bool, not, List, [], ◌∷◌, Result, Ok, Err}
+use Rattle.rules.specs.declared.Refusal.{Refusal}
 use Rattle.rules.specs.declared.Refusal.TheVariants.{NumbersUnsound, FactorIllegal}
 use Rattle.rules.specs.Refusals.{number, check, decided}
 use Rattle.rules.specs.Steps.{Step, passes, refuses}
 use Rattle.rules.specs.Records.{Piece}
 use Rattle.rules.specs.Load.{largest_record_k, records_within, any_illegal}
 
-abbrev pub of_soundness : Soundness → Step
-of_soundness Sound = passes
-of_soundness Illegal = refuses (number FactorIllegal)
-of_soundness Unsound = refuses (number NumbersUnsound)
+abbrev pub of_soundness : Result (Unit {0}) Refusal → Step
+of_soundness (Ok u) = passes
+of_soundness (Err r) = refuses (number r)
 
 -- 10, and then 18.
 unfoldable pub checked : Bool → Bool → Step

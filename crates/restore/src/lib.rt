@@ -1,149 +1,128 @@
 //! The connections of an image: checks 10, 18 and 11 of a load.
 #![tactic(auto)]
 
-ghost use Rattle.std.specs.Prelude.{◌≡◌, true, ◌+◌, ◌<◌, ◌≤◌, ◌^◌, length, take, drop};
+ghost use Rattle.std.specs.Prelude.{◌≡◌, true, ◌+◌, ◌<◌, ◌≤◌, ◌^◌, length};
 ghost use Rattle.rules.specs.Ownership.{largest_k};
 ghost use Rattle.rules.specs.Sound.{numbers_within};
-ghost use Rattle.rules.specs.Bytes.{little_number};
-ghost use Rattle.rules.specs.Records.{header_size};
+ghost use Rattle.rules.specs.Bytes.{number_at};
 ghost use Rattle.rules.specs.Form.{connection_size};
 ghost use Rattle.rules.specs.Framing.{Framed};
-ghost use Rattle.rules.specs.Fields.{field_in, handle_in, connection_in};
+ghost use Rattle.rules.specs.Fields.{handle_in, connection_in};
 ghost use Rattle.rules.specs.Load.{largest_record_k, records_within};
 ghost use Rattle.restore.specs.LoadSteps.{of_soundness, records_step};
-ghost use Rattle.restore.specs.Promises.{Reads, records, Restores};
+ghost use Rattle.restore.specs.Promises.{Reads, record_at, records, Restores};
 
 use rules::{
-    BLOCK_MICROS, Connection, HANDLES, HEADER_SIZE, LARGEST_K, LARGEST_RECORD_K, Restored,
-    Soundness,
+    BLOCK_MICROS, CONNECTION_RECORD, CONNECTION_SIZE, COUNT_RECORD, Connection, HANDLES,
+    HEADER_SIZE, LARGEST_K, LARGEST_RECORD_K, Refusal, Schedule,
 };
 use run::{factor, fresh, run_free, set_run};
 
-// The cursor after the record at `cursor`: its header, and the payload as long as the header says.
-fn next(bytes: &[u8], cursor: usize) -> usize
-    requires { cursor + header_size ≤ length bytes.now }
-    ensures { result ≡ cursor + (header_size + little_number (take 2 (drop cursor bytes.now))) }
-{
-    cursor + (HEADER_SIZE + codec::number(bytes, cursor, 2) as usize)
+/// The schedule of an image's connections, and where the record after them begins.
+#[derive(Clone, Copy)]
+pub struct Restored {
+    pub schedule: Schedule,
+    pub end: usize,
 }
 
-// The number in `width` bytes of the record at a cursor, from its payload's byte `start` on.
-fn field(bytes: &[u8], at: usize, start: usize, width: usize) -> u32
-    requires { (width ≤ 4) × (start + width ≤ connection_size) × (at + (header_size + connection_size) ≤ length bytes.now) }
-    ensures { Reads (λ p. field_in p start width) bytes.now at result × (result < 256 ^ width) }
+// The payload of connection i's record: the records before it have the sizes of their kinds.
+fn payload(bytes: &[u8], i: usize) -> &[u8]
+    requires { Framed bytes.now (length (records bytes.now)) × (i < length (records bytes.now)) }
+    ensures is { result.now ≡ (record_at bytes.now i).payload }
+    ensures size { length result.now ≡ connection_size }
 {
-    codec::number(bytes, at + HEADER_SIZE + start, width)
+    let start = COUNT_RECORD + i * CONNECTION_RECORD + HEADER_SIZE;
+    &bytes[start..start + CONNECTION_SIZE as usize]
 }
 
-// The handle of the record at a cursor.
-fn handle_at(bytes: &[u8], at: usize) -> u8
-    requires { at + (header_size + connection_size) ≤ length bytes.now }
-    ensures { Reads handle_in bytes.now at result }
+// The number in `width` bytes of a payload, from its byte `start` on.
+fn field(payload: &[u8], start: usize, width: usize) -> u32
+    requires { (width ≤ 4) × (start + width ≤ length payload.now) }
+    ensures { (result ≡ number_at payload.now start width) × (result < 256 ^ width) }
 {
-    field(bytes, at, 0, 1) as u8
+    codec::number(payload, start, width)
 }
 
-// The connection of the record at a cursor.
-fn connection_at(bytes: &[u8], at: usize) -> Connection
-    requires { at + (header_size + connection_size) ≤ length bytes.now }
-    ensures { Reads connection_in bytes.now at result }
+// The handle that a connection's payload says.
+fn handle_in(payload: &[u8]) -> u8
+    requires { length payload.now ≡ connection_size }
+    ensures { Reads handle_in payload.now result }
+{
+    field(payload, 0, 1) as u8
+}
+
+// The connection that it says.
+fn connection_in(payload: &[u8]) -> Connection
+    requires { length payload.now ≡ connection_size }
+    ensures { Reads connection_in payload.now result }
 {
     Connection {
         live: true,
-        k: field(bytes, at, 1, 1) as u8,
-        length: field(bytes, at, 4, 2) as u16,
-        floor: field(bytes, at, 6, 2) as u16,
-        ceiling: field(bytes, at, 8, 2) as u16,
-        anchor: field(bytes, at, 2, 2),
-        estimate: field(bytes, at, 10, 4),
+        k: field(payload, 1, 1) as u8,
+        length: field(payload, 4, 2) as u16,
+        floor: field(payload, 6, 2) as u16,
+        ceiling: field(payload, 8, 2) as u16,
+        anchor: field(payload, 2, 2),
+        estimate: field(payload, 10, 4),
     }
 }
 
-// 1 ≤ floor ≤ L ≤ ceiling ≤ F = 2^k, the anchor below F, the estimate at most L × 7,500; and k at most what a record may say.
+// k at most what a record may say, the anchor below F = 2^k, 1 ≤ floor ≤ L ≤ ceiling ≤ F, and the
+// estimate at most L × 7,500.
 fn numbers_within(c: Connection) -> bool
     ensures { result ≡ numbers_within largest_record_k c }
 {
-    if c.k > LARGEST_RECORD_K {
-        return false;
-    }
-    let f = factor(c.k as u32);
-    if f <= c.anchor {
-        return false;
-    }
-    if c.floor < 1 {
-        return false;
-    }
-    if c.length < c.floor {
-        return false;
-    }
-    if c.ceiling < c.length {
-        return false;
-    }
-    if f < c.ceiling as u32 {
-        return false;
-    }
-    if c.length as u32 * BLOCK_MICROS < c.estimate {
-        return false;
-    }
-    true
+    c.k <= LARGEST_RECORD_K
+        && c.anchor < factor(c.k as u32)
+        && 1 <= c.floor
+        && c.floor <= c.length
+        && c.length <= c.ceiling
+        && c.ceiling as u32 <= factor(c.k as u32)
+        && c.estimate <= c.length as u32 * BLOCK_MICROS
 }
 
-/// Check 10: each record's numbers are sound, and the handles rise. Check 18: no k is above the largest of a connection. A record that is unsound ends
-/// it, so that a k of 9 yields to a later 10.
-pub fn check_records(bytes: &[u8], n: usize) -> Soundness
+/// Check 10: each record's numbers are sound, and the handles rise. Check 18: no k is above the
+/// largest of a connection. An unsound record ends it, so that a k of 9 yields to a later 10.
+pub fn check_records(bytes: &[u8], n: usize) -> Result<(), Refusal>
     requires { Framed bytes.now n }
     ensures { of_soundness result ≡ records_step (records bytes.now) }
 {
-    let mut cursor = next(bytes, 0);
     let mut least: u8 = 0;
-    let mut illegal = false;
+    let mut answer = Ok(());
     for i in 0..n {
-        let h = handle_at(bytes, cursor);
-        if h >= HANDLES as u8 {
-            return Soundness::Unsound;
+        let record = payload(bytes, i);
+        let h = handle_in(record);
+        let c = connection_in(record);
+        if h >= HANDLES as u8 || h < least || !numbers_within(c) {
+            return Err(Refusal::NumbersUnsound);
         }
-        if h < least {
-            return Soundness::Unsound;
+        if c.k > LARGEST_K {
+            answer = Err(Refusal::FactorIllegal);
         }
-        let c = connection_at(bytes, cursor);
-        let k = c.k;
-        if !numbers_within(c) {
-            return Soundness::Unsound;
-        }
-        illegal = illegal | (k > LARGEST_K);
         least = h + 1;
-        cursor = next(bytes, cursor);
     }
-    if illegal {
-        return Soundness::Illegal;
-    }
-    Soundness::Sound
+    answer
 }
 
-/// Check 11: the connections of the records with their tree, taken one after the other on an empty tree; or two of them own one block.
-pub fn restore(bytes: &[u8], n: usize) -> Restored
+/// Check 11: the connections of the records with their tree, taken one after the other on an empty
+/// tree; or two of them own one block.
+pub fn restore(bytes: &[u8], n: usize) -> Result<Restored, Refusal>
     requires { Framed bytes.now n × (records_within largest_k (records bytes.now) ≡ true) }
     ensures { Restores bytes.now result }
 {
     let mut s = fresh();
-    let mut cursor = next(bytes, 0);
-    let mut apart = true;
     for i in 0..n {
-        let c = connection_at(bytes, cursor);
+        let record = payload(bytes, i);
+        let c = connection_in(record);
         let k = c.k as u32;
         let length = c.length as u32;
         if !run_free(&s.tree.bytes, k, c.anchor, length) {
-            apart = false;
-            break;
+            return Err(Refusal::BlockOwnedTwice);
         }
         set_run(&mut s.tree.bytes, k, c.anchor, 0, length, true);
-        let h = handle_at(bytes, cursor) as usize;
+        let h = handle_in(record) as usize;
         s.connections[h] = c;
-        cursor = next(bytes, cursor);
     }
-    Restored {
-        apart,
-        schedule: s,
-        end: cursor,
-    }
+    let end = COUNT_RECORD + n * CONNECTION_RECORD;
+    Ok(Restored { schedule: s, end })
 }

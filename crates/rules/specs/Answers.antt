@@ -1,38 +1,14 @@
 -- What the rule sheet answers, and what each case of an answer's enum stands for.
-use Rattle.std.specs.Prelude.{ℕ, List}
+use Rattle.std.specs.Prelude.{ℕ, List, Option, Some, None, Result, Ok, Err}
 use Rattle.rules.specs.declared.Schedule.{Schedule}
-use Rattle.rules.specs.declared.Admission.{Admission}
-use Rattle.rules.specs.declared.Admission.TheVariants.{Placed, Refused as AdmissionRefused}
-use Rattle.rules.specs.declared.Dropping.{Dropping}
-use Rattle.rules.specs.declared.Dropping.TheVariants.{Done, Refused as DroppingRefused}
-use Rattle.rules.specs.declared.Reporting.{Reporting}
-use Rattle.rules.specs.declared.Reporting.TheVariants.{Kept, Grown, Shrunk, Tight, Refused as ReportingRefused}
-use Rattle.rules.specs.declared.ReportingAll.{ReportingAll}
-use Rattle.rules.specs.declared.ReportingAll.TheVariants.{Answered, Refused as ReportingAllRefused}
-use Rattle.rules.specs.declared.Ownership.{Ownership}
-use Rattle.rules.specs.declared.Ownership.TheVariants.{Handle, Idle}
-use Rattle.rules.specs.declared.Distance.{Distance}
-use Rattle.rules.specs.declared.Distance.TheVariants.{Slots, Refused as DistanceRefused}
-use Rattle.rules.specs.declared.Saving.{Saving}
-use Rattle.rules.specs.declared.Saving.TheVariants.{Size, Refused as SavingRefused}
-use Rattle.rules.specs.declared.Loading.{Loading}
-use Rattle.rules.specs.declared.Loading.TheVariants.{Count, Refused as LoadingRefused}
-use Rattle.rules.specs.declared.Tidying.{Tidying}
-use Rattle.rules.specs.declared.Tidying.TheVariants.{Count as TidyingCount, Refused as TidyingRefused}
+use Rattle.rules.specs.declared.Refusal.{Refusal}
+use Rattle.rules.specs.declared.Placed.{Placed}
+use Rattle.rules.specs.declared.Adjusted.{Adjusted}
+use Rattle.rules.specs.declared.Adjusted.TheVariants.{Kept, Grown, Shrunk, Tight}
 use Rattle.rules.specs.declared.Message.{Message}
-use Rattle.rules.specs.declared.Reading.{Reading}
-use Rattle.rules.specs.declared.Reading.TheVariants.{Is, Refused as ReadingRefused}
-use Rattle.rules.specs.declared.Writing.{Writing}
-use Rattle.rules.specs.declared.Writing.TheVariants.{Size as WritingSize, Refused as WritingRefused}
 use Rattle.rules.specs.declared.Reply.{Reply}
 use Rattle.rules.specs.declared.Reply.TheVariants.{Admission as ReplyAdmission, Dropping as ReplyDropping, Reporting as ReplyReporting, Ownership as ReplyOwnership, Distance as ReplyDistance}
-use Rattle.rules.specs.declared.Admitted.{Admitted}
-use Rattle.rules.specs.declared.Dropped.{Dropped}
-use Rattle.rules.specs.declared.Reported.{Reported}
-use Rattle.rules.specs.declared.ReportedAll.{ReportedAll}
-use Rattle.rules.specs.declared.Loaded.{Loaded}
-use Rattle.rules.specs.declared.Tidied.{Tidied}
-use Rattle.rules.specs.declared.Obeyed.{Obeyed}
+use Rattle.rules.specs.declared.Done.{Done}
 use Rattle.rules.specs.Refusals.{number}
 
 -- The sheet's answers, with their numbers and values.
@@ -83,53 +59,54 @@ refusing_list s list n = record { answer = refused n; schedule = s; list = list 
 abbrev pub refusing_buffer : List ℕ → ℕ → Written
 refusing_buffer buffer n = record { answer = refused n; buffer = buffer }
 
--- ---- the sheet's number and values for every case of every enum
-abbrev pub of_admission : Admission → Answer
-of_admission (Placed F A L) = ok F A L
-of_admission (AdmissionRefused r) = refused (number r)
+-- ---- the sheet's number and values for every case of every answer of the code
+-- Of a call that may be refused: what its value says, or the refusal's number.
+abbrev pub answered : {V : Type 0} → (V → Answer) → Result V Refusal → Answer
+answered says (Ok v) = says v
+answered says (Err r) = refused (number r)
 
-abbrev pub of_dropping : Dropping → Answer
-of_dropping Done = dropped
-of_dropping (DroppingRefused r) = refused (number r)
+abbrev pub placed : Placed → Answer
+placed p = ok p.factor p.anchor p.length
 
-abbrev pub of_reporting : Reporting → Answer
-of_reporting (Kept L) = kept L
-of_reporting (Grown L) = grown L
-of_reporting (Shrunk L) = shrunk L
-of_reporting (Tight L) = tight L
-of_reporting (ReportingRefused r) = refused (number r)
+abbrev pub adjusted : Adjusted → Answer
+adjusted (Kept L) = kept L
+adjusted (Grown L) = grown L
+adjusted (Shrunk L) = shrunk L
+adjusted (Tight L) = tight L
 
-abbrev pub of_reporting_all : ReportingAll → Answer
-of_reporting_all (Answered n) = reported n
-of_reporting_all (ReportingAllRefused r) = refused (number r)
+abbrev pub of_admission : Result Placed Refusal → Answer
+of_admission = answered placed
 
-abbrev pub of_ownership : Ownership → Answer
-of_ownership (Handle h) = owner h
-of_ownership Idle = idle
+abbrev pub of_dropping : Result Unit Refusal → Answer
+of_dropping = answered (λ _. dropped)
 
-abbrev pub of_distance : Distance → Answer
-of_distance (Slots n) = slots n
-of_distance (DistanceRefused r) = refused (number r)
+abbrev pub of_reporting : Result Adjusted Refusal → Answer
+of_reporting = answered adjusted
 
-abbrev pub of_saving : Saving → Answer
-of_saving (Size n) = saved n
-of_saving (SavingRefused r) = refused (number r)
+abbrev pub of_reporting_all : Result ℕ Refusal → Answer
+of_reporting_all = answered reported
 
-abbrev pub of_loading : Loading → Answer
-of_loading (Count n) = loaded n
-of_loading (LoadingRefused r) = refused (number r)
+abbrev pub of_ownership : Option ℕ → Answer
+of_ownership (Some h) = owner h
+of_ownership None = idle
 
-abbrev pub of_reading : Reading → Answer
-of_reading (Is m) = message m
-of_reading (ReadingRefused r) = refused (number r)
+abbrev pub of_distance : Result ℕ Refusal → Answer
+of_distance = answered slots
 
-abbrev pub of_writing : Writing → Answer
-of_writing (WritingSize n) = wrote n
-of_writing (WritingRefused r) = refused (number r)
+abbrev pub of_saving : Result ℕ Refusal → Answer
+of_saving = answered saved
 
-abbrev pub of_tidying : Tidying → Answer
-of_tidying (TidyingCount n) = tidied n
-of_tidying (TidyingRefused r) = refused (number r)
+abbrev pub of_loading : Result ℕ Refusal → Answer
+of_loading = answered loaded
+
+abbrev pub of_reading : Result Message Refusal → Answer
+of_reading = answered message
+
+abbrev pub of_writing : Result ℕ Refusal → Answer
+of_writing = answered wrote
+
+abbrev pub of_tidying : Result ℕ Refusal → Answer
+of_tidying = answered tidied
 
 abbrev pub of_reply : Reply → Answer
 of_reply (ReplyAdmission a) = of_admission a
@@ -138,24 +115,9 @@ of_reply (ReplyReporting a) = of_reporting a
 of_reply (ReplyOwnership a) = of_ownership a
 of_reply (ReplyDistance a) = of_distance a
 
--- ---- and for each result that has a schedule beside the answer
-abbrev pub of_admitted : Admitted → Outcome
-of_admitted r = record { answer = of_admission r.answer; schedule = r.schedule }
+-- ---- and with the schedule beside the answer, and with the lent list
+abbrev pub outcome : {A : Type 0} → (A → Answer) → Done A → Outcome
+outcome says r = record { answer = says r.answer; schedule = r.schedule }
 
-abbrev pub of_dropped : Dropped → Outcome
-of_dropped r = record { answer = of_dropping r.answer; schedule = r.schedule }
-
-abbrev pub of_reported : Reported → Outcome
-of_reported r = record { answer = of_reporting r.answer; schedule = r.schedule }
-
-abbrev pub of_reported_all : ReportedAll → List ℕ → Listed
-of_reported_all r list = record { answer = of_reporting_all r.answer; schedule = r.schedule; list = list }
-
-abbrev pub of_loaded : Loaded → Outcome
-of_loaded r = record { answer = of_loading r.answer; schedule = r.schedule }
-
-abbrev pub of_tidied : Tidied → List ℕ → Listed
-of_tidied r list = record { answer = of_tidying r.answer; schedule = r.schedule; list = list }
-
-abbrev pub of_obeyed : Obeyed → Outcome
-of_obeyed r = record { answer = of_reply r.reply; schedule = r.schedule }
+abbrev pub listed : {A : Type 0} → (A → Answer) → Done A → List ℕ → Listed
+listed says r list = record { answer = says r.answer; schedule = r.schedule; list = list }

@@ -1,9 +1,7 @@
 -- The lines of the command program: what each says.
-use Rattle.std.specs.Prelude.{ℕ, Bool, true, ◌&&◌, cond, List, [], ◌∷◌, ◌++◌, map, eqb, length, get_or}
+use Rattle.std.specs.Prelude.{ℕ, Bool, true, ◌&&◌, cond, List, [], ◌∷◌, ◌++◌, map, eqb, length, get_or, Option, Some, None}
 use Rattle.rules.specs.declared.Command.{Command}
 use Rattle.rules.specs.declared.Command.TheVariants.{Admit, AdmitRange, Drop, Report, Owner, Anchor}
-use Rattle.rules.specs.declared.Line.{Line}
-use Rattle.rules.specs.declared.Line.TheVariants.{Says, Bad}
 use Rattle.rules.specs.Text.{byte, text}
 use Rattle.rules.specs.Bytes.{same}
 use Rattle.rules.specs.Decimal.{value, fits}
@@ -46,33 +44,33 @@ abbrev pub is_form : List ℕ → List ℕ → List ℕ → ℕ → Bool
 is_form word ns form count = same word form && eqb (length ns) count
 
 -- The command of a word and its numbers, a line for each form.
-unfoldable pub named : List ℕ → List ℕ → Line
+unfoldable pub named : List ℕ → List ℕ → Option Command
 unfolding same
 named word ns =
     let n : ℕ → ℕ = λ i. get_or ns i 0 in
-    cond (is_form word ns (text "admit") 4) (Says (Admit (n 0) (n 1) (n 2) (n 3)))
-    (cond (is_form word ns (text "admit") 5) (Says (AdmitRange (n 0) (n 1) (n 2) (n 3) (n 4)))
-    (cond (is_form word ns (text "drop") 1) (Says (Drop (n 0)))
-    (cond (is_form word ns (text "report") 2) (Says (Report (n 0) (n 1)))
-    (cond (is_form word ns (text "owner") 1) (Says (Owner (n 0)))
-    (cond (is_form word ns (text "anchor") 2) (Says (Anchor (n 0) (n 1))) Bad)))))
+    cond (is_form word ns (text "admit") 4) (Some (Admit (n 0) (n 1) (n 2) (n 3)))
+    (cond (is_form word ns (text "admit") 5) (Some (AdmitRange (n 0) (n 1) (n 2) (n 3) (n 4)))
+    (cond (is_form word ns (text "drop") 1) (Some (Drop (n 0)))
+    (cond (is_form word ns (text "report") 2) (Some (Report (n 0) (n 1)))
+    (cond (is_form word ns (text "owner") 1) (Some (Owner (n 0)))
+    (cond (is_form word ns (text "anchor") 2) (Some (Anchor (n 0) (n 1))) None)))))
 
 -- What is between the spaces, taken as a word and then numbers.
-unfoldable pub fields_named : List (List ℕ) → List ℕ → Line
+unfoldable pub fields_named : List (List ℕ) → List ℕ → Option Command
 unfolding named value
 fields_named [] tail = named tail []
 fields_named (word ∷ ps) tail = named word (map value (ps ++ (tail ∷ [])))
 
-unfoldable pub guess : List ℕ → Line
+unfoldable pub guess : List ℕ → Option Command
 unfolding parted fields_named
 guess line = fields_named (parted (byte " ") line).pieces (parted (byte " ") line).tail
 
 -- A line says the command that it is when written out. "Anything else prints `bad`."
-unfoldable pub confirmed : List ℕ → Line → Line
+unfoldable pub confirmed : List ℕ → Option Command → Option Command
 unfolding line_of all_fit same
-confirmed line Bad = Bad
-confirmed line (Says c) = cond (same (line_of c) line && all_fit (numbers_of c)) (Says c) Bad
+confirmed line None = None
+confirmed line (Some c) = cond (same (line_of c) line && all_fit (numbers_of c)) (Some c) None
 
-unfoldable pub says : List ℕ → Line
+unfoldable pub says : List ℕ → Option Command
 unfolding guess confirmed
 says line = confirmed line (guess line)

@@ -1,8 +1,7 @@
 -- The command program: from the bytes of its input to those of its output.
-use Rattle.std.specs.Prelude.{ℕ, ◌*◌, cond, List, [], ◌∷◌, ◌++◌, ltb, length}
+use Rattle.std.specs.Prelude.{ℕ, ◌*◌, cond, List, [], ◌∷◌, ◌++◌, ltb, length, Option, Some, None}
+use Rattle.rules.specs.declared.Command.{Command}
 use Rattle.rules.specs.declared.Schedule.{Schedule}
-use Rattle.rules.specs.declared.Line.{Line}
-use Rattle.rules.specs.declared.Line.TheVariants.{Says, Bad}
 use Rattle.rules.specs.Good.{fresh}
 use Rattle.rules.specs.Obey.{obey}
 use Rattle.rules.specs.Text.{byte, text}
@@ -24,10 +23,10 @@ pub record Printed : Type 0 where
   pub schedule : Schedule
 
 -- "a bad line changes nothing"
-unfoldable pub carried_out : Schedule → Line → Printed
+unfoldable pub carried_out : Schedule → Option Command → Printed
 unfolding obey words_of
-carried_out s Bad = record { words = text "bad"; schedule = s }
-carried_out s (Says c) =
+carried_out s None = record { words = text "bad"; schedule = s }
+carried_out s (Some c) =
     let o = obey s c in
     record { words = words_of o.answer; schedule = o.schedule }
 

@@ -1,6 +1,8 @@
 //! The numbers and the types of the base. What they mean stands in specs/, one notion to a file.
 #![tactic(auto)]
 
+ghost use Rattle.std.specs.Prelude.{◌≡◌};
+
 // ---- the sheet's numbers, each with the name of its definition
 
 /// The least connection interval, in slots.
@@ -74,6 +76,13 @@ pub const TREE_KIND: u32 = 3;
 
 pub const TREE_SIZE: u32 = TREE_BYTES as u32;
 
+/// Each record in bytes: its header and its payload.
+pub const COUNT_RECORD: usize = HEADER_SIZE + COUNT_SIZE as usize;
+
+pub const CONNECTION_RECORD: usize = HEADER_SIZE + CONNECTION_SIZE as usize;
+
+pub const TREE_RECORD: usize = HEADER_SIZE + TREE_SIZE as usize;
+
 /// The most bytes of the line of an answer.
 pub const LONGEST_ANSWER: usize = 28;
 
@@ -91,7 +100,7 @@ pub const MOST_OUTPUT: usize = 4 * MOST_INPUT;
 /// A connection's share of the radio; its handle is its place in the schedule. Sixteen bytes, none of them between two fields:
 /// so a schedule is copied as a whole.
 #[repr(C)]
-#[derive(Clone, Copy)]
+#[derive(Clone, Copy, Default)]
 pub struct Connection {
     pub live: bool,
     pub k: u8,
@@ -136,7 +145,7 @@ pub struct Report {
 
 /// The values of a subrate command.
 #[repr(C)]
-#[derive(Clone, Copy)]
+#[derive(Clone, Copy, Default)]
 pub struct Subrates {
     pub min: u16,
     pub max: u16,
@@ -147,7 +156,7 @@ pub struct Subrates {
 
 /// The values of the event that a connection's subrating has changed, or has not.
 #[repr(C)]
-#[derive(Clone, Copy)]
+#[derive(Clone, Copy, Default)]
 pub struct SubrateChange {
     pub status: u8,
     pub handle: u16,
@@ -192,156 +201,47 @@ pub enum Refusal {
     CeilingAboveHalf,
 }
 
-/// What a largest interval gives: the largest k of a connection with 6 × 2^k not above it, or nothing.
+/// What a step of an admission says that has no value to give: the smallest interval, the range,
+/// the share and the half. An enum, as the sheet wants of a step that may refuse; the number is the
+/// caller's to say.
 #[derive(Clone, Copy)]
-pub enum Interval {
-    Gives(u8),
-    Outside,
+pub enum Verdict {
+    Passes,
+    Refuses,
 }
 
-/// Whether a smallest interval is from the least that there is to the largest.
+/// Where an admission goes.
 #[derive(Clone, Copy)]
-pub enum Smallest {
-    Within,
-    Outside,
+pub struct Plan {
+    pub k: u8,
+    pub anchor: u16,
 }
 
-/// Whether the interval that k gives is not below the smallest.
+/// Where an admission was placed: F, A and L.
 #[derive(Clone, Copy)]
-pub enum Range {
-    Holds,
-    Misses,
+pub struct Placed {
+    pub factor: u16,
+    pub anchor: u16,
+    pub length: u16,
 }
 
-/// Whether a floor and a ceiling are a share of a factor.
+/// What a report does to a length, with the length that it leaves.
 #[derive(Clone, Copy)]
-pub enum Share {
-    Fits,
-    Wrong,
-}
-
-/// Whether a ceiling is at most half of a factor.
-#[derive(Clone, Copy)]
-pub enum Half {
-    Within,
-    Above,
-}
-
-/// The first open anchor in node order, or none.
-#[derive(Clone, Copy)]
-pub enum Place {
-    At(u16),
-    Nowhere,
-}
-
-/// Where an admission goes, k and the anchor, or why it is refused.
-#[derive(Clone, Copy)]
-pub enum Plan {
-    At(u8, u16),
-    Refused(Refusal),
-}
-
-/// Whether the records of an image's connections are sound, are so but for a k that no connection may have, or are not.
-#[derive(Clone, Copy)]
-pub enum Soundness {
-    Sound,
-    Illegal,
-    Unsound,
-}
-
-/// How many connections an image counts; or its records are wrong.
-#[derive(Clone, Copy)]
-pub enum Frame {
-    Counts(u8),
-    Wrong,
-}
-
-#[derive(Clone, Copy)]
-pub enum Admission {
-    Placed {
-        factor: u16,
-        anchor: u16,
-        length: u16,
-    },
-    Refused(Refusal),
-}
-
-#[derive(Clone, Copy)]
-pub enum Dropping {
-    Done,
-    Refused(Refusal),
-}
-
-/// A report's answer, with the length that it leaves.
-#[derive(Clone, Copy)]
-pub enum Reporting {
+pub enum Adjusted {
     Kept(u16),
     Grown(u16),
     Shrunk(u16),
     Tight(u16),
-    Refused(Refusal),
-}
-
-/// How many reports of a list were made.
-#[derive(Clone, Copy)]
-pub enum ReportingAll {
-    Answered(u8),
-    Refused(Refusal),
-}
-
-#[derive(Clone, Copy)]
-pub enum Ownership {
-    Handle(u8),
-    Idle,
-}
-
-#[derive(Clone, Copy)]
-pub enum Distance {
-    Slots(u32),
-    Refused(Refusal),
-}
-
-#[derive(Clone, Copy)]
-pub enum Saving {
-    Size(usize),
-    Refused(Refusal),
-}
-
-#[derive(Clone, Copy)]
-pub enum Loading {
-    Count(u8),
-    Refused(Refusal),
-}
-
-/// How many anchors differ.
-#[derive(Clone, Copy)]
-pub enum Tidying {
-    Count(u8),
-    Refused(Refusal),
-}
-
-/// The message that bytes are.
-#[derive(Clone, Copy)]
-pub enum Reading {
-    Is(Message),
-    Refused(Refusal),
-}
-
-/// The size of a message that was written.
-#[derive(Clone, Copy)]
-pub enum Writing {
-    Size(usize),
-    Refused(Refusal),
 }
 
 /// The answer of any call that a command makes.
 #[derive(Clone, Copy)]
 pub enum Reply {
-    Admission(Admission),
-    Dropping(Dropping),
-    Reporting(Reporting),
-    Ownership(Ownership),
-    Distance(Distance),
+    Admission(Result<Placed, Refusal>),
+    Dropping(Result<(), Refusal>),
+    Reporting(Result<Adjusted, Refusal>),
+    Ownership(Option<u8>),
+    Distance(Result<u32, Refusal>),
 }
 
 // ---- the command text
@@ -374,75 +274,25 @@ pub enum Command {
     },
 }
 
-/// What a line says.
-#[derive(Clone, Copy)]
-pub enum Line {
-    Says(Command),
-    Bad,
-}
-
-/// The number that digits say.
-#[derive(Clone, Copy)]
-pub enum Number {
-    Is(u32),
-    Wrong,
-}
-
 // ---- an answer beside the schedule that it leaves
 
+/// What a call has done: its answer, and the schedule that it leaves.
 #[derive(Clone, Copy)]
-pub struct Admitted {
-    pub answer: Admission,
+pub struct Done<A> {
+    pub answer: A,
     pub schedule: Schedule,
 }
 
-#[derive(Clone, Copy)]
-pub struct Dropped {
-    pub answer: Dropping,
-    pub schedule: Schedule,
-}
-
-#[derive(Clone, Copy)]
-pub struct Reported {
-    pub answer: Reporting,
-    pub schedule: Schedule,
-}
-
-#[derive(Clone, Copy)]
-pub struct ReportedAll {
-    pub answer: ReportingAll,
-    pub schedule: Schedule,
-}
-
-/// The schedule of an image's connections, if no block belongs to two of them, and where the record after them begins.
-#[derive(Clone, Copy)]
-pub struct Restored {
-    pub apart: bool,
-    pub schedule: Schedule,
-    pub end: usize,
-}
-
-#[derive(Clone, Copy)]
-pub struct Loaded {
-    pub answer: Loading,
-    pub schedule: Schedule,
-}
-
-/// Whether every connection found an anchor, and the schedule of those that did.
-#[derive(Clone, Copy)]
-pub struct Arranged {
-    pub all: bool,
-    pub schedule: Schedule,
-}
-
-#[derive(Clone, Copy)]
-pub struct Tidied {
-    pub answer: Tidying,
-    pub schedule: Schedule,
-}
-
-#[derive(Clone, Copy)]
-pub struct Obeyed {
-    pub reply: Reply,
-    pub schedule: Schedule,
+impl<A: Copy> Done<A> {
+    /// What was done, with its answer said in another way.
+    pub fn map<B: Copy, F: FnOnce(A) -> B>(self, say: F) -> Done<B>
+        requires { F.pre say self.answer }
+        ensures answer { F.post say self.answer result.answer }
+        ensures schedule { result.schedule ≡ self.schedule }
+    {
+        Done {
+            answer: say(self.answer),
+            schedule: self.schedule,
+        }
+    }
 }

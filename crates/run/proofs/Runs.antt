@@ -1,12 +1,12 @@
 -- A run, one class after the other.
 use mathlib.Core.Path.{◌≡◌, ◌∙◌, ap}
-use mathlib.Core.Bool.{Bool, true, false}
+use mathlib.Core.Bool.{true, false}
 use mathlib.Core.List.{List}
 use Prim.Native.Nat.{ℕ, ◌+◌, ◌%◌, ◌^◌, ◌<◌, ◌≤◌}
 use Rattle.blocks.specs.Taking.{set_run, with_class, without_class}
 use Rattle.rules.specs.TreeBytes.{tree_of}
 use Rattle.blocks.proofs.RunLaws.{tree_run_taken, tree_run_given}
-use Rattle.tree.specs.Promises.{IsTree, Takes, GivesBack}
+use Rattle.tree.specs.Promises.{Takes, GivesBack}
 use Rattle.run.specs.Promises.{SetsRun}
 
 module _ (k A from j r : ℕ) (t₀ t t' : List ℕ) (h : from ≤ j) (l : j < 2 ^ k) (e : r ≡ (A + j) % 2 ^ k) where
@@ -21,7 +21,3 @@ module _ (k A from j r : ℕ) (t₀ t t' : List ℕ) (h : from ≤ j) (l : j < 2
       q (set_run k A from j false f) (p f s)
       ∙ ap (λ (x : ℕ). tree_of (without_class k x (set_run k A from j false f))) e
       ∙ tree_run_given k A from f j h l
-
--- What is left of a tree is a tree.
-pub still_tree : (k A from j : ℕ) (v : Bool) (t₀ t : List ℕ) → IsTree t₀ → SetsRun k A from j v t₀ t → IsTree t
-still_tree k A from j v t₀ t i p = (set_run k A from j v i.0, p i.0 i.1)

@@ -1,2 +1,3 @@
 -- What the functions on runs promise.
 pub mod Promises
+pub mod Finding

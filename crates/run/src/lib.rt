@@ -7,21 +7,16 @@ ghost use Rattle.rules.specs.Ownership.{nobody as no_connection};
 ghost use Rattle.tree.specs.Promises.{IsTree};
 ghost use Rattle.run.specs.Promises.{Starts, Factor, ClassAt, MinusMod, RunFreeSays, SetsRun};
 
+mod finding;
+
+pub use finding::live_connection;
 use rules::{Connection, HANDLES, Schedule, TREE_BYTES, Tree};
 
 /// A free slot: no run, all zeros.
 pub fn nobody() -> Connection
     ensures { result ≡ no_connection }
 {
-    Connection {
-        live: false,
-        k: 0,
-        length: 0,
-        floor: 0,
-        ceiling: 0,
-        anchor: 0,
-        estimate: 0,
-    }
+    Connection::default()
 }
 
 /// A fresh schedule.
@@ -65,12 +60,7 @@ pub fn run_free(tree: &[u8; TREE_BYTES], k: u32, anchor: u32, length: u32) -> bo
     requires { (k ≤ depth) × (anchor < 2 ^ k) × (length ≤ 2 ^ k) × IsTree tree.now }
     ensures { RunFreeSays k anchor length tree.now result }
 {
-    for j in 0..length {
-        if !tree::is_free(tree, k, class_at(k, anchor, j)) {
-            return false;
-        }
-    }
-    true
+    (0..length).all(|j| tree::is_free(tree, k, class_at(k, anchor, j)))
 }
 
 /// Takes the classes of a run, from its block `from` to before its block `to`, or gives them back.

@@ -2,15 +2,17 @@
 use mathlib.Core.Path.{◌≡◌, sym, ap, ◌∙◌}
 use mathlib.Core.Bool.{true, false}
 use mathlib.Core.Logic.{◌≢◌}
+use Rattle.std.specs.Prelude.{Result}
 use Prim.Native.Nat.{ℕ}
 use Rattle.rules.specs.declared.Schedule.{Schedule}
-use Rattle.rules.specs.declared.Admitted.{Admitted}
-use Rattle.rules.specs.declared.Dropped.{Dropped}
-use Rattle.rules.specs.declared.Reported.{Reported}
+use Rattle.rules.specs.declared.Refusal.{Refusal}
+use Rattle.rules.specs.declared.Placed.{Placed}
+use Rattle.rules.specs.declared.Adjusted.{Adjusted}
+use Rattle.rules.specs.declared.Done.{Done}
 use Rattle.rules.specs.Good.{Good}
-use Rattle.rules.specs.Answers.{Outcome, refused, ok, dropped, of_admitted, of_dropped, of_reported}
+use Rattle.rules.specs.Answers.{Outcome, refused, ok, dropped, of_admission, of_dropping, of_reporting, outcome}
 use Rattle.rules.specs.Handles.{connection, is_live}
-use Rattle.calls.proofs.AnswerLaws.{admitted_injective, dropped_injective, reported_injective}
+use Rattle.calls.proofs.AnswerLaws.{admission_injective, dropping_injective, reporting_injective, done_injective}
 use Rattle.calls.proofs.AdmitLaws.{admit_others}
 use Rattle.calls.proofs.DropLaws.{drop_others}
 use Rattle.calls.proofs.ReportLaws.{report_others}
@@ -19,14 +21,14 @@ use Rattle.calls.proofs.CallLaws.{Leaves, refusal_keeps_schedule}
 use Rattle.schedule.specs.Promises.{Admits, Drops, Reports}
 
 -- ---- two outcomes that meet a call's statement are equal
-pub admit_unique : (s : Schedule) (h lo hi f c : ℕ) (a b : Admitted) → Admits s h lo hi f c a → Admits s h lo hi f c b → a ≡ b
-admit_unique s h lo hi f c a b p q = admitted_injective a b (p.is ∙ sym q.is)
+pub admit_unique : (s : Schedule) (h lo hi f c : ℕ) (a b : Done (Result Placed Refusal)) → Admits s h lo hi f c a → Admits s h lo hi f c b → a ≡ b
+admit_unique s h lo hi f c a b p q = done_injective of_admission admission_injective a b (p.is ∙ sym q.is)
 
-pub drop_unique : (s : Schedule) (h : ℕ) (a b : Dropped) → Drops s h a → Drops s h b → a ≡ b
-drop_unique s h a b p q = dropped_injective a b (p.is ∙ sym q.is)
+pub drop_unique : (s : Schedule) (h : ℕ) (a b : Done (Result Unit Refusal)) → Drops s h a → Drops s h b → a ≡ b
+drop_unique s h a b p q = done_injective of_dropping dropping_injective a b (p.is ∙ sym q.is)
 
-pub report_unique : (s : Schedule) (h sample : ℕ) (a b : Reported) → Reports s h sample a → Reports s h sample b → a ≡ b
-report_unique s h sample a b p q = reported_injective a b (p.is ∙ sym q.is)
+pub report_unique : (s : Schedule) (h sample : ℕ) (a b : Done (Result Adjusted Refusal)) → Reports s h sample a → Reports s h sample b → a ≡ b
+report_unique s h sample a b p q = done_injective of_reporting reporting_injective a b (p.is ∙ sym q.is)
 
 -- ---- what a result is, is said of its schedule
 -- A result whose outcome is a rule's: what holds of the schedule that the rule leaves holds of its own.
@@ -36,35 +38,35 @@ module _ (o rule : Outcome) (is : o ≡ rule) where
 
 module _ (s : Schedule) (good : Good s) (h : ℕ) where
   -- A refused call leaves the schedule as it was.
-  pub admit_refusal : (lo hi f c : ℕ) (r : Admitted) → Admits s h lo hi f c r → (n : ℕ) → (of_admitted r).answer ≡ refused n → r.schedule ≡ s
+  pub admit_refusal : (lo hi f c : ℕ) (r : Done (Result Placed Refusal)) → Admits s h lo hi f c r → (n : ℕ) → (outcome of_admission r).answer ≡ refused n → r.schedule ≡ s
   admit_refusal lo hi f c r p n e =
-      there (of_admitted r) _ p.is (λ t. t ≡ s) (refusal_keeps_schedule s (Leaves.admits h lo hi f c) n (ap (λ (o : Outcome). o.answer) (sym p.is) ∙ e))
+      there (outcome of_admission r) _ p.is (λ t. t ≡ s) (refusal_keeps_schedule s (Leaves.admits h lo hi f c) n (ap (λ (o : Outcome). o.answer) (sym p.is) ∙ e))
 
-  pub drop_refusal : (r : Dropped) → Drops s h r → (n : ℕ) → (of_dropped r).answer ≡ refused n → r.schedule ≡ s
+  pub drop_refusal : (r : Done (Result Unit Refusal)) → Drops s h r → (n : ℕ) → (outcome of_dropping r).answer ≡ refused n → r.schedule ≡ s
   drop_refusal r p n e =
-      there (of_dropped r) _ p.is (λ t. t ≡ s) (refusal_keeps_schedule s (Leaves.drops h) n (ap (λ (o : Outcome). o.answer) (sym p.is) ∙ e))
+      there (outcome of_dropping r) _ p.is (λ t. t ≡ s) (refusal_keeps_schedule s (Leaves.drops h) n (ap (λ (o : Outcome). o.answer) (sym p.is) ∙ e))
 
-  pub report_refusal : (sample : ℕ) (r : Reported) → Reports s h sample r → (n : ℕ) → (of_reported r).answer ≡ refused n → r.schedule ≡ s
+  pub report_refusal : (sample : ℕ) (r : Done (Result Adjusted Refusal)) → Reports s h sample r → (n : ℕ) → (outcome of_reporting r).answer ≡ refused n → r.schedule ≡ s
   report_refusal sample r p n e =
-      there (of_reported r) _ p.is (λ t. t ≡ s) (refusal_keeps_schedule s (Leaves.reports h sample) n (ap (λ (o : Outcome). o.answer) (sym p.is) ∙ e))
+      there (outcome of_reporting r) _ p.is (λ t. t ≡ s) (refusal_keeps_schedule s (Leaves.reports h sample) n (ap (λ (o : Outcome). o.answer) (sym p.is) ∙ e))
 
   -- Every other connection is as it was, and so is whether it is live.
-  pub admit_keeps : (lo hi f c : ℕ) (r : Admitted) → Admits s h lo hi f c r → (j : ℕ) → j ≢ h → connection r.schedule j ≡ connection s j
-  admit_keeps lo hi f c r p j n = there (of_admitted r) _ p.is (λ t. connection t j ≡ connection s j) (admit_others s good h lo hi f c j n)
+  pub admit_keeps : (lo hi f c : ℕ) (r : Done (Result Placed Refusal)) → Admits s h lo hi f c r → (j : ℕ) → j ≢ h → connection r.schedule j ≡ connection s j
+  admit_keeps lo hi f c r p j n = there (outcome of_admission r) _ p.is (λ t. connection t j ≡ connection s j) (admit_others s good h lo hi f c j n)
 
-  pub drop_keeps : (r : Dropped) → Drops s h r → (j : ℕ) → j ≢ h → connection r.schedule j ≡ connection s j
-  drop_keeps r p j n = there (of_dropped r) _ p.is (λ t. connection t j ≡ connection s j) (drop_others s good h j n)
+  pub drop_keeps : (r : Done (Result Unit Refusal)) → Drops s h r → (j : ℕ) → j ≢ h → connection r.schedule j ≡ connection s j
+  drop_keeps r p j n = there (outcome of_dropping r) _ p.is (λ t. connection t j ≡ connection s j) (drop_others s good h j n)
 
-  pub report_keeps : (sample : ℕ) (r : Reported) → Reports s h sample r → (j : ℕ) → j ≢ h → connection r.schedule j ≡ connection s j
-  report_keeps sample r p j n = there (of_reported r) _ p.is (λ t. connection t j ≡ connection s j) (report_others s good h sample j n)
+  pub report_keeps : (sample : ℕ) (r : Done (Result Adjusted Refusal)) → Reports s h sample r → (j : ℕ) → j ≢ h → connection r.schedule j ≡ connection s j
+  report_keeps sample r p j n = there (outcome of_reporting r) _ p.is (λ t. connection t j ≡ connection s j) (report_others s good h sample j n)
 
   -- Which handles are live afterwards: an accepted admission begins its own, an accepted drop ends its own, a report neither.
-  pub admit_begins : (lo hi f c : ℕ) (r : Admitted) → Admits s h lo hi f c r → (F A L : ℕ) → (of_admitted r).answer ≡ ok F A L → is_live r.schedule h ≡ true
+  pub admit_begins : (lo hi f c : ℕ) (r : Done (Result Placed Refusal)) → Admits s h lo hi f c r → (F A L : ℕ) → (outcome of_admission r).answer ≡ ok F A L → is_live r.schedule h ≡ true
   admit_begins lo hi f c r p F A L e =
-      there (of_admitted r) _ p.is (λ t. is_live t h ≡ true) (admit_lives s good h lo hi f c F A L (ap (λ (o : Outcome). o.answer) (sym p.is) ∙ e))
+      there (outcome of_admission r) _ p.is (λ t. is_live t h ≡ true) (admit_lives s good h lo hi f c F A L (ap (λ (o : Outcome). o.answer) (sym p.is) ∙ e))
 
-  pub drop_ends_own : (r : Dropped) → Drops s h r → (of_dropped r).answer ≡ dropped → is_live r.schedule h ≡ false
-  drop_ends_own r p e = there (of_dropped r) _ p.is (λ t. is_live t h ≡ false) (drop_lives s good h (ap (λ (o : Outcome). o.answer) (sym p.is) ∙ e))
+  pub drop_ends_own : (r : Done (Result Unit Refusal)) → Drops s h r → (outcome of_dropping r).answer ≡ dropped → is_live r.schedule h ≡ false
+  drop_ends_own r p e = there (outcome of_dropping r) _ p.is (λ t. is_live t h ≡ false) (drop_lives s good h (ap (λ (o : Outcome). o.answer) (sym p.is) ∙ e))
 
-  pub report_live : (sample : ℕ) (r : Reported) → Reports s h sample r → (j : ℕ) → is_live r.schedule j ≡ is_live s j
-  report_live sample r p j = there (of_reported r) _ p.is (λ t. is_live t j ≡ is_live s j) (report_lives s good h sample j)
+  pub report_live : (sample : ℕ) (r : Done (Result Adjusted Refusal)) → Reports s h sample r → (j : ℕ) → is_live r.schedule j ≡ is_live s j
+  report_live sample r p j = there (outcome of_reporting r) _ p.is (λ t. is_live t j ≡ is_live s j) (report_lives s good h sample j)

@@ -6,10 +6,7 @@ ghost use Rattle.rules.specs.Admit.{new_connection};
 ghost use Rattle.schedule.specs.Promises.{Admits};
 
 use place::plan;
-use rules::{
-    Admission, Admitted, BLOCK_MICROS, Connection, GUARD_MICROS, LAST_HANDLE, Plan, Refusal,
-    Schedule,
-};
+use rules::{BLOCK_MICROS, Connection, Done, GUARD_MICROS, LAST_HANDLE, Placed, Refusal, Schedule};
 use run::{factor, set_run};
 
 // L is the floor; the estimate is L × 7,500 - 2,500.
@@ -28,6 +25,35 @@ fn new_connection(k: u8, anchor: u32, floor: u16, ceiling: u16) -> Connection
     }
 }
 
+// Check 1 and those of the plan; then the connection takes its blocks.
+fn place(
+    s: &mut Schedule,
+    handle: u32,
+    smallest: u32,
+    largest: u32,
+    floor: u32,
+    ceiling: u32,
+) -> Result<Placed, Refusal>
+    requires { Good s.old }
+    ensures { Admits s.old handle smallest largest floor ceiling (record { answer = result; schedule = s.new }) }
+{
+    if LAST_HANDLE < handle {
+        return Err(Refusal::HandleAbove63);
+    }
+    let h = handle as usize;
+    let live = s.connections[h].live;
+    let to = plan(&s.tree.bytes, live, smallest, largest, floor, ceiling)?;
+    let k = to.k as u32;
+    let anchor = to.anchor as u32;
+    set_run(&mut s.tree.bytes, k, anchor, 0, floor, true);
+    s.connections[h] = new_connection(to.k, anchor, floor as u16, ceiling as u16);
+    Ok(Placed {
+        factor: factor(k) as u16,
+        anchor: to.anchor,
+        length: floor as u16,
+    })
+}
+
 /// Admits a connection: handle, smallest and largest interval in slots, floor and ceiling in blocks.
 pub fn admit(
     mut s: Schedule,
@@ -36,32 +62,12 @@ pub fn admit(
     largest: u32,
     floor: u32,
     ceiling: u32,
-) -> Admitted
+) -> Done<Result<Placed, Refusal>>
     requires { Good s }
     ensures { Admits s handle smallest largest floor ceiling result }
 {
-    let mut answer = Admission::Refused(Refusal::HandleAbove63);
-    if handle <= LAST_HANDLE {
-        let h = handle as usize;
-        let old = s.connections[h];
-        match plan(&s.tree.bytes, old.live, smallest, largest, floor, ceiling) {
-            Plan::Refused(r) => {
-                answer = Admission::Refused(r);
-            }
-            Plan::At(k, anchor) => {
-                let c = new_connection(k, anchor as u32, floor as u16, ceiling as u16);
-                set_run(&mut s.tree.bytes, k as u32, anchor as u32, 0, floor, true);
-                s.connections[h] = c;
-                answer = Admission::Placed {
-                    factor: factor(k as u32) as u16,
-                    anchor,
-                    length: floor as u16,
-                };
-            }
-        }
-    }
-    // one way out: the schedule is copied once
-    Admitted {
+    let answer = place(&mut s, handle, smallest, largest, floor, ceiling);
+    Done {
         answer,
         schedule: s,
     }

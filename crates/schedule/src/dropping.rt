@@ -3,29 +3,27 @@ ghost use Rattle.rules.specs.Good.{Good};
 ghost use Rattle.schedule.specs.Promises.{Drops};
 
 use crate::reporting::settle;
-use rules::{Dropped, Dropping, LAST_HANDLE, Refusal, Schedule};
-use run::nobody;
+use rules::{Done, Refusal, Schedule};
+use run::{live_connection, nobody};
+
+fn end(s: &mut Schedule, handle: u32) -> Result<(), Refusal>
+    requires { Good s.old }
+    ensures { Drops s.old handle (record { answer = result; schedule = s.new }) }
+{
+    let c = live_connection(s, handle)?;
+    // the run shrinks to no block
+    settle(&mut s.tree.bytes, c, 0);
+    s.connections[handle as usize] = nobody();
+    Ok(())
+}
 
 /// Drops a connection: its blocks are free at once.
-pub fn drop(mut s: Schedule, handle: u32) -> Dropped
+pub fn drop(mut s: Schedule, handle: u32) -> Done<Result<(), Refusal>>
     requires { Good s }
     ensures { Drops s handle result }
 {
-    let mut answer = Dropping::Refused(Refusal::HandleAbove63);
-    if handle <= LAST_HANDLE {
-        let h = handle as usize;
-        let c = s.connections[h];
-        if c.live {
-            // the run shrinks to no block
-            settle(&mut s.tree.bytes, c, 0);
-            s.connections[h] = nobody();
-            answer = Dropping::Done;
-        } else {
-            answer = Dropping::Refused(Refusal::HandleNotLive);
-        }
-    }
-    // one way out: the schedule is copied once
-    Dropped {
+    let answer = end(&mut s, handle);
+    Done {
         answer,
         schedule: s,
     }

@@ -5,8 +5,10 @@ use Prim.Native.Nat.{ℕ, ◌≤◌}
 use native.Mathlib.Omega.{arith}
 use Rattle.rules.specs.declared.Schedule.{Schedule}
 use Rattle.rules.specs.declared.Command.{Command}
-use Rattle.rules.specs.declared.Obeyed.{Obeyed}
-use Rattle.rules.specs.declared.Loaded.{Loaded}
+use Rattle.rules.specs.declared.Refusal.{Refusal}
+use Rattle.rules.specs.declared.Reply.{Reply}
+use Rattle.rules.specs.declared.Done.{Done}
+use Rattle.std.specs.Prelude.{Result}
 use Rattle.rules.specs.Good.{Good}
 use Rattle.rules.specs.Answers.{Outcome, of_reply, of_loading}
 use Rattle.rules.specs.Text.{text}
@@ -35,7 +37,7 @@ module _ {s : Schedule} {line entry exit : List ℕ} {n : ℕ} where
         good = good;
       }
 
-  pub acts_command : (c : Command) (r : Obeyed) → asks line ≡ command c → Obeys s c r → PutsAnswer entry 0 (of_reply r.reply) exit n
+  pub acts_command : (c : Command) (r : Done Reply) → asks line ≡ command c → Obeys s c r → PutsAnswer entry 0 (of_reply r.answer) exit n
       → Performs s line entry exit (record { schedule = r.schedule; count = n })
   unfolding performed carried_out
   acts_command c r e o p =
@@ -64,7 +66,7 @@ module _ {s : Schedule} {line entry exit : List ℕ} {n : ℕ} where
   unfolding performed
   acts_bad e good p = acted e p (omega (arith, p.ends)) refl good
 
-  pub acts_load : {between : List ℕ} {i : ℕ} (bytes : List ℕ) (r : Loaded) → asks line ≡ load_order bytes → Loads s bytes r
+  pub acts_load : {between : List ℕ} {i : ℕ} (bytes : List ℕ) (r : Done (Result ℕ Refusal)) → asks line ≡ load_order bytes → Loads s bytes r
       → PutsWords entry 0 (of_loading r.answer) between i → Puts between i newline exit n
       → Performs s line entry exit (record { schedule = r.schedule; count = n })
   unfolding performed

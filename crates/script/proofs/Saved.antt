@@ -8,8 +8,7 @@ use lib.Seq.{take_at}
 use borrow.Author.Tests.{ltb-false}
 use Rattle.rules.specs.declared.Schedule.{Schedule}
 use Rattle.rules.specs.declared.Refusal.{Refusal}
-use Rattle.rules.specs.declared.Saving.{Saving}
-use Rattle.rules.specs.declared.Saving.TheVariants.{Size, Refused}
+use Rattle.std.specs.Prelude.{Result, Ok, Err}
 use Rattle.rules.specs.Good.{Good}
 use Rattle.rules.specs.Text.{text}
 use Rattle.rules.specs.Words.{words_of}
@@ -47,7 +46,7 @@ module _ (s : Schedule) (good : Good s) (entry exit : List ℕ) (large : 2048 �
       let b = image_bounds s good.places in
       save_whole s entry (image s) refl (omega arith)
 
-  pub holds : (n : ℕ) → Saves s entry exit (Size n) → Holds s exit n
+  pub holds : (n : ℕ) → Saves s entry exit (Ok n) → Holds s exit n
   holds n p =
       let e = p ∙ wrote in
       let q : n ≡ length (image s) = save_size s entry n (sym (ap (λ (w : Written). w.answer) p)) in
@@ -61,7 +60,7 @@ module _ (s : Schedule) (good : Good s) (entry exit : List ℕ) (large : 2048 �
       }
 
   -- It is large enough.
-  pub never_refused : (r : Refusal) → Saves s entry exit (Refused r) → ⊥
+  pub never_refused : (r : Refusal) → Saves s entry exit (Err r) → ⊥
   never_refused r p = let e = ap (λ (w : Written). w.answer) (p ∙ wrote) in let z : ◌≡◌ {A = ℕ} 0 1 = cc in omega arith
 
 -- The line of an image.
@@ -72,13 +71,13 @@ image_line_lem s e p q r = puts_after (puts_after p (puts_as (ap hex e) q)) r
 
 -- ---- a save into a blank buffer
 -- The answer's words, the buffer, the end of the line.
-pub saved_line_lem : {l b c d : List ℕ} {i j k : ℕ} (s : Schedule) (entry exit : List ℕ) (a : Saving) (n : ℕ) → entry ≡ blank n → Saves s entry exit a
+pub saved_line_lem : {l b c d : List ℕ} {i j k : ℕ} (s : Schedule) (entry exit : List ℕ) (a : Result ℕ Refusal) (n : ℕ) → entry ≡ blank n → Saves s entry exit a
     → Puts l 0 (words_of (of_saving a)) b i → Puts b i (buffer_words exit) c j → Puts c j newline d k → Puts l 0 (saved_line s n) d k
 unfolding saved_line
 saved_line_lem s entry exit a n e p w q r = lent_line_lem (of_saving a) exit (save s (blank n)) (p ∙ ap (save s) e) w q r
 
 -- A save keeps the buffer's size.
-pub save_length : (s : Schedule) (entry exit : List ℕ) (a : Saving) → Saves s entry exit a → length exit ≡ length entry
+pub save_length : (s : Schedule) (entry exit : List ℕ) (a : Result ℕ Refusal) → Saves s entry exit a → length exit ≡ length entry
 unfolding save save_checks save_done
 save_length s entry exit a p =
     let bytes = image s in

@@ -1,7 +1,6 @@
 -- What a line of a script prints, and the schedule after it.
-use Rattle.std.specs.Prelude.{ℕ, List, ◌++◌}
+use Rattle.std.specs.Prelude.{ℕ, List, ◌++◌, Some}
 use Rattle.rules.specs.declared.Schedule.{Schedule}
-use Rattle.rules.specs.declared.Line.TheVariants.{Says}
 use Rattle.rules.specs.Text.{text}
 use Rattle.rules.specs.Words.{words_of}
 use Rattle.rules.specs.Good.{fresh}
@@ -32,7 +31,7 @@ most_printed = 8192
 unfoldable pub performed : Schedule → Order → Printed
 unfolding carried_out fresh load image_line saved_line state_lines words_of
 performed s (command c) =
-    let p = carried_out s (Says c) in
+    let p = carried_out s (Some c) in
     record { words = p.words ++ newline; schedule = p.schedule }
 performed s fresh_order = record { words = text "ok\n"; schedule = fresh }
 performed s save_order = record { words = image_line s; schedule = s }

@@ -6,12 +6,12 @@ ghost use Rattle.hexadecimal.specs.Lending.{most_buffer};
 ghost use Rattle.script.specs.Performing.{most_printed, image_line, saved_line};
 ghost use Rattle.script.specs.Promises.{Performs};
 
-use answer::{put_loading, put_reply, put_saving};
+use answer::{put_counted, put_reply};
 use command::obey;
 use hexadecimal::{blank, put_buffer, put_hex};
 use image::{load, save};
 use order::{Order, Performed, order_of};
-use rules::{Saving, Schedule};
+use rules::Schedule;
 use schedule::fresh;
 use state::put_state;
 use text::put_word;
@@ -22,8 +22,7 @@ fn put_image(out: &mut [u8], s: Schedule, bytes: &mut [u8]) -> usize
     ensures { PutsWithin 4200 out.old 0 (image_line s) out.new result }
 {
     let a = put_word(out, 0, b"image ");
-    let answer = save(s, bytes);
-    let Saving::Size(size) = answer else {
+    let Ok(size) = save(s, bytes) else {
         return a;
     };
     let b = put_hex(out, a, &bytes[..size]);
@@ -36,54 +35,56 @@ fn put_saved(out: &mut [u8], s: Schedule, bytes: &mut [u8]) -> usize
     ensures { PutsWithin 4200 out.old 0 (saved_line s (length bytes.old)) out.new result }
 {
     blank(bytes);
-    let answer = save(s, bytes);
-    let a = put_saving(out, 0, answer);
+    let answer = save(s, bytes).map(|size| size as u32);
+    let a = put_counted(out, 0, b"saved", answer);
     let b = put_buffer(out, a, bytes);
     put_word(out, b, b"\n")
 }
 
-/// Performs a line: writes what it prints from the buffer's start; the other buffer is for its bytes.
+/// Performs a line: writes what it prints from the buffer's start; the other buffer is for its
+/// bytes.
 pub fn perform(s: Schedule, line: &[u8], bytes: &mut [u8], out: &mut [u8]) -> Performed
-    requires { Good s × (length line.now ≤ 65536) × (32768 ≤ length bytes.old) × (most_printed ≤ length out.old) }
+    requires { Good s × (length line.now ≤ 65536) × (32768 ≤ length bytes.old)
+        × (most_printed ≤ length out.old) }
     ensures { Performs s line.now out.old out.new result }
 {
     match order_of(line, bytes) {
-        Order::Command(command) => {
+        Some(Order::Command(command)) => {
             let done = obey(s, command);
-            let reply = done.reply;
-            let schedule = done.schedule;
-            let count = put_reply(out, 0, reply);
-            Performed { schedule, count }
+            let count = put_reply(out, 0, done.answer);
+            Performed {
+                schedule: done.schedule,
+                count,
+            }
         }
-        Order::Fresh => {
+        Some(Order::Fresh) => {
             let count = put_word(out, 0, b"ok\n");
             let schedule = fresh();
             Performed { schedule, count }
         }
-        Order::Save => {
+        Some(Order::Save) => {
             let count = put_image(out, s, bytes);
             Performed { schedule: s, count }
         }
-        Order::SaveInto(size) => {
-            let n = size as usize;
-            let count = put_saved(out, s, &mut bytes[..n]);
+        Some(Order::SaveInto(size)) => {
+            let count = put_saved(out, s, &mut bytes[..size as usize]);
             Performed { schedule: s, count }
         }
-        Order::Load(n) => {
+        Some(Order::Load(n)) => {
             let done = load(s, &bytes[..n]);
-            let answer = done.answer;
-            let schedule = done.schedule;
-            let a = put_loading(out, 0, answer);
+            let a = put_counted(out, 0, b"loaded", done.answer.map(u32::from));
             let count = put_word(out, a, b"\n");
-            Performed { schedule, count }
+            Performed {
+                schedule: done.schedule,
+                count,
+            }
         }
-        Order::State => {
-            let connections = s.connections;
-            let a = put_state(out, connections);
+        Some(Order::State) => {
+            let a = put_state(out, &s.connections);
             let count = put_word(out, a, b"end\n");
             Performed { schedule: s, count }
         }
-        Order::Bad => {
+        None => {
             let count = put_word(out, 0, b"bad\n");
             Performed { schedule: s, count }
         }

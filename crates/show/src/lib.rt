@@ -24,23 +24,12 @@ pub fn end(rt: &impl Print) {
 
 /// How many bits of a tree are set.
 pub fn bits(tree: &[u8; TREE_BYTES]) -> u64 {
-    let mut set: u64 = 0;
-    for n in 0..NODES {
-        if tree::is_set(tree, n) {
-            set += 1;
-        }
-    }
-    set
-}
-
-fn wide(byte: u8) -> u64 {
-    byte as u64
+    (0..NODES).filter(|&n| tree::is_set(tree, n)).count() as u64
 }
 
 /// Every byte of a tree, in hexadecimal.
 pub fn bytes(rt: &impl Print, tree: &[u8; TREE_BYTES]) {
-    for i in 0..TREE_BYTES {
-        let byte = wide(tree[i]);
+    for byte in tree {
         let _ = print!(rt; "{byte:02x}");
     }
 }

@@ -15,21 +15,23 @@ use text::{put_decimal, put_spaced, put_word};
 // Which blocks are whose: handle, k, anchor, length.
 fn put_run(out: &mut [u8], at: usize, handle: u8, c: Connection) -> usize
     requires { at + 24 ≤ length out.old }
-    ensures { PutsWithin 24 out.old at (decimal handle ++ spaced (c.k ∷ c.anchor ∷ c.length ∷ [])) out.new result }
+    ensures { PutsWithin 24 out.old at (decimal handle ++ spaced (c.k ∷ c.anchor ∷ c.length ∷ []))
+        out.new result }
 {
-    let a = put_decimal(out, at, handle as u32);
-    let b = put_spaced(out, a, c.k as u32);
+    let a = put_decimal(out, at, u32::from(handle));
+    let b = put_spaced(out, a, u32::from(c.k));
     let d = put_spaced(out, b, c.anchor);
-    put_spaced(out, d, c.length as u32)
+    put_spaced(out, d, u32::from(c.length))
 }
 
 // What the length moves by: floor, ceiling, estimate.
 fn put_share(out: &mut [u8], at: usize, c: Connection) -> usize
     requires { at + 24 ≤ length out.old }
-    ensures { PutsWithin 24 out.old at (spaced (c.floor ∷ c.ceiling ∷ c.estimate ∷ []) ++ newline) out.new result }
+    ensures { PutsWithin 24 out.old at (spaced (c.floor ∷ c.ceiling ∷ c.estimate ∷ []) ++ newline)
+        out.new result }
 {
-    let a = put_spaced(out, at, c.floor as u32);
-    let b = put_spaced(out, a, c.ceiling as u32);
+    let a = put_spaced(out, at, u32::from(c.floor));
+    let b = put_spaced(out, a, u32::from(c.ceiling));
     let d = put_spaced(out, b, c.estimate);
     put_word(out, d, b"\n")
 }
@@ -44,14 +46,14 @@ fn put_connection(out: &mut [u8], at: usize, handle: u8, c: Connection) -> usize
 }
 
 /// The lines of the live connections, handles rising.
-pub fn put_state(out: &mut [u8], connections: [Connection; HANDLES]) -> usize
-    requires { (length connections ≡ handles) × (longest_line * handles ≤ length out.old) }
-    ensures { PutsState connections out.old out.new result }
+pub fn put_state(out: &mut [u8], connections: &[Connection; HANDLES]) -> usize
+    requires { longest_line * handles ≤ length out.old }
+    ensures { PutsState connections.now out.old out.new result }
 {
-    let mut next: usize = 0;
-    for h in 0..HANDLES {
-        if connections[h].live {
-            next = put_connection(out, next, h as u8, connections[h]);
+    let mut next = 0;
+    for (h, c) in connections.iter().enumerate() {
+        if c.live {
+            next = put_connection(out, next, h as u8, *c);
         }
     }
     next

@@ -1,3 +1,2 @@
--- The numbers of a line, and what it prints.
-pub mod Numbering
+-- What a line prints.
 pub mod Printing

@@ -1,5 +1,5 @@
 -- What the performing of a line that reads or writes a message promises.
-use Rattle.std.specs.Prelude.{ℕ, ◌<◌, ◌≤◌, Bool, true, false, List, ◌++◌, length, get_or}
+use Rattle.std.specs.Prelude.{ℕ, ◌≤◌, List, ◌++◌, get_or, Option, Some, None}
 use Rattle.rules.specs.declared.Message.{Message}
 use Rattle.rules.specs.Text.{text}
 use Rattle.rules.specs.Words.{words_of}
@@ -9,8 +9,6 @@ use Rattle.text.specs.Promises.{PutsWithin}
 use Rattle.hexadecimal.specs.Lending.{most_buffer, blank, lent_line}
 use Rattle.talk.specs.declared.asking.Asked.{Asked}
 use Rattle.talk.specs.declared.asking.Asked.TheVariants.{Read, Write, Bad, Other}
-use Rattle.talk.specs.declared.telling.Told.{Told}
-use Rattle.talk.specs.declared.telling.Told.TheVariants.{Count, Other as NotTold}
 
 -- No line has more numbers: the buffer's size, and the six of a request or a change.
 abbrev pub longest_row : ℕ
@@ -32,9 +30,9 @@ pub data Prints (entry exit : List ℕ) (n : ℕ) : Type 0 where
   bad : PutsWithin longest_told entry 0 (text "bad\n") exit n → Prints entry exit n
 
 -- A line of a message is performed so; of any other nothing is said.
-abbrev pub Tells : List ℕ → List ℕ → Told → Type 0
-Tells entry exit (Count n) = Prints entry exit n
-Tells entry exit NotTold = Unit {0}
+abbrev pub Tells : List ℕ → List ℕ → Option ℕ → Type 0
+Tells entry exit (Some n) = Prints entry exit n
+Tells entry exit None = Unit {0}
 
 -- ---- within
 -- The bytes to read are in the lent buffer, and that of a writing is not too large.
@@ -44,12 +42,7 @@ Within lent (Write n m) = n ≤ most_buffer
 Within lent Bad = Unit {0}
 Within lent Other = Unit {0}
 
--- Each number fits in two bytes;
-abbrev pub Narrow : List ℕ → Bool → Type 0
-Narrow numbers true = (i : ℕ) → i < length numbers → get_or numbers i 0 < 65536
-Narrow numbers false = Unit {0}
-
--- the first is a buffer's size.
-abbrev pub Numbers : List ℕ → Bool → Type 0
-Numbers numbers true = (get_or numbers 0 0 ≤ most_buffer) × Narrow numbers true
-Numbers numbers false = Unit {0}
+-- The first of a line's numbers is a buffer's size.
+abbrev pub Numbers : Option (List ℕ) → Type 0
+Numbers (Some numbers) = get_or numbers 0 0 ≤ most_buffer
+Numbers None = Unit {0}

@@ -1,10 +1,10 @@
 //! What a line asks for.
-ghost use Rattle.std.specs.Prelude.{◌≡◌, true, ◌+◌, ◌*◌, ◌≤◌, length};
-ghost use Rattle.talk.specs.Promises.{longest_row, Within, Narrow, Numbers};
+ghost use Rattle.std.specs.Prelude.{◌+◌, ◌*◌, ◌≤◌, length};
+ghost use Rattle.talk.specs.Promises.{Within, Numbers};
 
-use hexadecimal::{Hex, MOST_BUFFER, read_hex};
+use hexadecimal::{MOST_BUFFER, read_hex};
 use rules::{Message, SubrateChange, Subrates};
-use text::{Row, is_word, opens, read_row};
+use text::{is_word, opens, read_row};
 
 // The places after `message` and its space, `default`, `request` and `change`: the words' lengths.
 const AFTER_MESSAGE: usize = 8;
@@ -18,7 +18,8 @@ const AFTER_CHANGE: usize = 6;
 // The most numbers of a line: longest_row of specs/Promises.
 const LONGEST_ROW: usize = 7;
 
-/// A message to read from so many bytes of the lent buffer, one to write into so many, a bad line, or one that is none of these.
+/// A message to read from so many bytes of the lent buffer, one to write into so many, a bad line,
+/// or one that is none of these.
 #[derive(Clone, Copy)]
 pub enum Asked {
     Read(usize),
@@ -27,91 +28,80 @@ pub enum Asked {
     Other,
 }
 
-// Whether each number fits in two bytes.
-fn narrow(numbers: &[u32]) -> bool
-    ensures { Narrow numbers.now result }
+// The numbers behind a word, so many, each of two bytes; the first is a buffer's size.
+fn numbers_of(line: &[u8], at: usize, count: usize) -> Option<[u16; LONGEST_ROW]>
+    requires { at ≤ length line.now }
+    ensures { Numbers result }
 {
-    for i in 0..numbers.len() {
-        if 65535 < numbers[i] {
-            return false;
-        }
+    let mut row = [0u32; LONGEST_ROW];
+    if read_row(line, at, &mut row)? != count {
+        return None;
     }
-    true
-}
-
-// Whether what follows a word are so many numbers, each fit for its place; they are then in the lent slice.
-fn numbers_of(line: &[u8], at: usize, count: usize, numbers: &mut [u32]) -> bool
-    requires { (at ≤ length line.now) × (length numbers.old ≡ longest_row) }
-    ensures { Numbers numbers.new result }
-{
-    let read = read_row(line, at, numbers);
-    let Row::Count(n) = read else {
-        return false;
-    };
-    if n != count {
-        return false;
+    let mut numbers = [0u16; LONGEST_ROW];
+    for (place, &n) in numbers.iter_mut().zip(&row) {
+        *place = u16::try_from(n).ok()?;
     }
-    if MOST_BUFFER < numbers[0] {
-        return false;
+    if MOST_BUFFER < u32::from(numbers[0]) {
+        return None;
     }
-    narrow(numbers)
+    Some(numbers)
 }
 
 // The five numbers of a command from a place on.
-fn subrates_at(n: &[u32], at: usize) -> Subrates
-    requires { (at + 5 ≤ length n.now) × Narrow n.now true }
+fn subrates_at(n: &[u16; LONGEST_ROW], at: usize) -> Subrates
+    requires { at + 5 ≤ length n.now }
 {
     Subrates {
-        min: n[at] as u16,
-        max: n[at + 1] as u16,
-        latency: n[at + 2] as u16,
-        continuation: n[at + 3] as u16,
-        timeout: n[at + 4] as u16,
+        min: n[at],
+        max: n[at + 1],
+        latency: n[at + 2],
+        continuation: n[at + 3],
+        timeout: n[at + 4],
     }
 }
 
-fn default_of(line: &[u8], n: &mut [u32]) -> Asked
-    requires { (7 ≤ length line.now) × (length n.old ≡ longest_row) }
+fn default_of(line: &[u8]) -> Asked
+    requires { 7 ≤ length line.now }
     ensures { Within 0 result }
 {
-    if !numbers_of(line, AFTER_DEFAULT, 6, n) {
+    let Some(n) = numbers_of(line, AFTER_DEFAULT, 6) else {
         return Asked::Bad;
-    }
-    let v = subrates_at(n, 1);
-    Asked::Write(n[0] as usize, Message::Default(v))
+    };
+    let v = subrates_at(&n, 1);
+    Asked::Write(usize::from(n[0]), Message::Default(v))
 }
 
-fn request_of(line: &[u8], n: &mut [u32]) -> Asked
-    requires { (7 ≤ length line.now) × (length n.old ≡ longest_row) }
+fn request_of(line: &[u8]) -> Asked
+    requires { 7 ≤ length line.now }
     ensures { Within 0 result }
 {
-    if !numbers_of(line, AFTER_REQUEST, 7, n) {
+    let Some(n) = numbers_of(line, AFTER_REQUEST, 7) else {
         return Asked::Bad;
-    }
-    let v = subrates_at(n, 2);
-    Asked::Write(n[0] as usize, Message::Request(n[1] as u16, v))
+    };
+    let v = subrates_at(&n, 2);
+    Asked::Write(usize::from(n[0]), Message::Request(n[1], v))
 }
 
-fn change_of(line: &[u8], n: &mut [u32]) -> Asked
-    requires { (6 ≤ length line.now) × (length n.old ≡ longest_row) }
+fn change_of(line: &[u8]) -> Asked
+    requires { 6 ≤ length line.now }
     ensures { Within 0 result }
 {
-    if !numbers_of(line, AFTER_CHANGE, 7, n) {
+    let Some(n) = numbers_of(line, AFTER_CHANGE, 7) else {
         return Asked::Bad;
-    }
+    };
     // a status has one byte
     if 255 < n[1] {
         return Asked::Bad;
     }
     let e = SubrateChange {
         status: n[1] as u8,
-        handle: n[2] as u16,
-        factor: n[3] as u16,
-        latency: n[4] as u16,
-        continuation: n[5] as u16,
-        timeout: n[6] as u16,
+        handle: n[2],
+        factor: n[3],
+        latency: n[4],
+        continuation: n[5],
+        timeout: n[6],
     };
-    Asked::Write(n[0] as usize, Message::Change(e))
+    Asked::Write(usize::from(n[0]), Message::Change(e))
 }
 
 // Bytes in hexadecimal.
@@ -119,11 +109,10 @@ fn bytes_of(line: &[u8], bytes: &mut [u8]) -> Asked
     requires { (8 ≤ length line.now) × (length line.now ≤ 2 * length bytes.old) }
     ensures { Within (length bytes.old) result }
 {
-    let read = read_hex(line, AFTER_MESSAGE, bytes);
-    let Hex::Bytes(n) = read else {
-        return Asked::Bad;
-    };
-    Asked::Read(n)
+    match read_hex(line, AFTER_MESSAGE, bytes) {
+        Some(n) => Asked::Read(n),
+        None => Asked::Bad,
+    }
 }
 
 /// What a line asks for, by the word that it opens with; the bytes to read are in the lent buffer.
@@ -137,15 +126,14 @@ pub fn asked_of(line: &[u8], bytes: &mut [u8]) -> Asked
     if opens(line, b"message ") {
         return bytes_of(line, bytes);
     }
-    let mut n = [0u32; LONGEST_ROW];
     if opens(line, b"default") {
-        return default_of(line, &mut n);
+        return default_of(line);
     }
     if opens(line, b"request") {
-        return request_of(line, &mut n);
+        return request_of(line);
     }
     if opens(line, b"change") {
-        return change_of(line, &mut n);
+        return change_of(line);
     }
     Asked::Other
 }

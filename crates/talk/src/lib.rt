@@ -5,4 +5,4 @@ mod asking;
 mod telling;
 
 pub use asking::{Asked, asked_of};
-pub use telling::{Told, perform_message};
+pub use telling::perform_message;

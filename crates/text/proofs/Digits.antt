@@ -1,6 +1,6 @@
 -- A number, read digit by digit.
-use mathlib.Core.Path.{◌≡◌, refl, sym, ap, ◌∙◌}
-use mathlib.Core.List.{List, [], ◌∷◌}
+use mathlib.Core.Path.{◌≡◌, sym, ap, ◌∙◌}
+use mathlib.Core.List.{List}
 use mathlib.Core.Logic.{◌≢◌, ⊎_elim}
 use Prim.Native.Nat.{ℕ, ◌+◌, ◌-◌, ◌*◌, ◌^◌, ◌<◌, ◌≤◌}
 use native.Mathlib.Omega.{arith}
@@ -11,16 +11,11 @@ use lib.Seq.{take-suc, take_all}
 use Rattle.rules.specs.Decimal.{value}
 use Rattle.texts.specs.Row.{number_in}
 use Rattle.texts.proofs.DecimalLaws.{Digit, value_snoc, number_right}
-use mathlib.Core.Option.{some}
+use Rattle.std.specs.Prelude.{Some}
 
 -- The first i bytes are digits.
 abbrev pub DigitsTo : List ℕ → ℕ → Type 0
 DigitsTo ds i = (j : ℕ) → j < i → Digit (get_or ds j 0)
-
--- No byte at all.
-pub nothing : (ds : List ℕ) → length ds ≡ 0 → ds ≡ []
-nothing [] e = refl
-nothing (d ∷ ds) e = absurd (omega arith)
 
 module _ (ds : List ℕ) (i sum : ℕ) where
   -- One more digit.
@@ -34,10 +29,10 @@ module _ (ds : List ℕ) (i sum : ℕ) where
 
 -- All bytes are read.
 pub value_all : (ds : List ℕ) (i sum : ℕ) → i ≡ length ds → 0 < i → (1 < i → get_or ds 0 0 ≢ 48) → DigitsTo ds i → sum ≡ value (take i ds) → sum < 2 ^ 32
-    → some sum ≡ number_in ds
+    → Some sum ≡ number_in ds
 value_all ds i sum e some_digit leading each v small =
     let all : take i ds ≡ ds = take_all i ds (omega arith) in
     let w : sum ≡ value ds = v ∙ ap value all in
-    ap (λ (n : ℕ). some n) w ∙ sym (number_right ds
+    ap (λ (n : ℕ). Some n) w ∙ sym (number_right ds
     (record { some_digit = omega arith; each = λ j h. each j (omega arith); leading = λ h. leading (omega arith) })
     (omega (arith, w)))

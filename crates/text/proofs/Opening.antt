@@ -1,47 +1,25 @@
--- A line opens with a word, or is one: byte by byte.
-use mathlib.Core.Path.{◌≡◌, sym, ap, ap₂, ◌∙◌}
-use mathlib.Core.Bool.{true, false}
+-- A line opens with a word, or is one.
+use mathlib.Core.Path.{◌≡◌, sym, ap}
+use mathlib.Core.Bool.{true}
 use mathlib.Core.List.{List}
-use Prim.Native.Nat.{ℕ, ◌+◌, ◌<◌, ◌≤◌}
+use Prim.Native.Nat.{ℕ, ◌≤◌}
 use native.Mathlib.Omega.{arith}
-use lib.ListN.{length, get_or, take, drop, length-take}
-use lib.Seq.{get_or-take, drop-length, take_all}
+use lib.ListN.{length, take, length-take}
+use Rattle.std.specs.Str.{bytes_eq}
+use Rattle.std.proofs.lemmas.Bool.Decides.{same_from_decides, Decides-like}
+use Rattle.std.proofs.lemmas.Slice.Eq.{bytes_eq-Decides}
 use Rattle.rules.specs.Bytes.{same}
-use Rattle.basics.proofs.BoolLaws.{is_false}
-use Rattle.basics.proofs.BytesLaws.{same_exactly, same_turn, same_differs}
+use Rattle.basics.proofs.BytesLaws.{same_exactly}
 
-module _ (line word : List ℕ) where
-  -- A line that does is no shorter;
-  pub opens_long : same (take (length word) line) word ≡ true → length word ≤ length line
-  opens_long e = let n = ap (λ (x : List ℕ). length x) ((same_exactly (take (length word) line) word).0 e) in omega (arith, n, length-take (length word) line)
+-- The test of two slices is that of two lists, from either side.
+pub same_tested : (xs ys : List ℕ) → bytes_eq xs ys ≡ same xs ys
+same_tested xs ys = same_from_decides _ _ (bytes_eq-Decides xs ys) (same_exactly xs ys)
 
-  -- so a shorter one does not.
-  pub opens_short : length line < length word → same (take (length word) line) word ≡ false
-  opens_short h = is_false (same (take (length word) line) word) (λ e. omega (arith, opens_long e))
+pub same_turned : (xs ys : List ℕ) → bytes_eq ys xs ≡ same xs ys
+same_turned xs ys = same_from_decides _ _ (Decides-like _ sym sym (bytes_eq-Decides ys xs)) (same_exactly xs ys)
 
-  module _ (i : ℕ) (hw : i < length word) (hl : length word ≤ length line) where
-    inside : i < length (take (length word) line)
-    inside = simp length-take (omega arith)
-
-    pub opens_turn : get_or line i 0 ≡ get_or word i 0
-        → same (drop i (take (length word) line)) (drop i word) ≡ same (drop (i + 1) (take (length word) line)) (drop (i + 1) word)
-    opens_turn e = same_turn (take (length word) line) word i i inside hw (get_or-take (length word) line i 0 hw ∙ e)
-
-    pub opens_differs : (get_or line i 0 ≡ get_or word i 0 → ⊥) → same (drop i (take (length word) line)) (drop i word) ≡ false
-    opens_differs e = same_differs (take (length word) line) word i i inside hw (λ p. e (sym (get_or-take (length word) line i 0 hw) ∙ p))
-
-  -- Nothing is left of the word.
-  pub opens_end : (i : ℕ) → i ≡ length word → length word ≤ length line → same (drop i (take (length word) line)) (drop i word) ≡ true
-  unfolding same
-  opens_end i e hl =
-      let n : length (take (length word) line) ≡ length word = simp length-take (omega arith) in
-      rw e (ap₂ same (ap (λ (k : ℕ). drop k (take (length word) line)) (sym n) ∙ drop-length (take (length word) line)) (drop-length word))
-
--- ---- a line that is a word
--- It is as long,
-pub is_shorter : (line word : List ℕ) → (length line ≡ length word → ⊥) → same line word ≡ false
-is_shorter line word f = is_false (same line word) (λ e. f (ap (λ (x : List ℕ). length x) ((same_exactly line word).0 e)))
-
--- and opens with it.
-pub is_opened : (line word : List ℕ) → length line ≡ length word → same (take (length word) line) word ≡ same line word
-is_opened line word e = ap (λ (x : List ℕ). same x word) (take_all (length word) line (omega arith))
+-- A line that opens with a word is no shorter.
+pub opens_long : (line word : List ℕ) → same (take (length word) line) word ≡ true → length word ≤ length line
+opens_long line word e =
+    let n = ap (λ (x : List ℕ). length x) ((same_exactly (take (length word) line) word).0 e) in
+    omega (arith, n, length-take (length word) line)

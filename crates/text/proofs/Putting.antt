@@ -3,8 +3,8 @@ use mathlib.Core.Path.{◌≡◌, refl, sym, ap, subst, ◌∙◌}
 use mathlib.Core.List.{List, [], ◌∷◌, ◌++◌, append-nil, append_assoc}
 use Prim.Native.Nat.{ℕ, suc, ◌+◌, ◌/◌, ◌%◌, ◌^◌, ◌<◌, ◌≤◌}
 use native.Mathlib.Omega.{arith}
-use lib.ListN.{length, get_or, take, set, length-append}
-use lib.Seq.{length-sets, length-take-le, take-suc}
+use lib.ListN.{length, take, set, length-append}
+use lib.Seq.{length-sets, length-take-le}
 use Rattle.rules.specs.Decimal.{decimal}
 use Rattle.rules.specs.Words.{spaced}
 use Rattle.basics.proofs.StoreLaws.{put_after}
@@ -28,14 +28,6 @@ puts_nothing l start = record { stored = refl; ends = omega arith }
 
 pub puts_length : {l b : List ℕ} {start i : ℕ} {xs : List ℕ} → Puts l start xs b i → length b ≡ length l
 puts_length {l} {b} {start} {i} {xs} p = ap (λ (x : List ℕ). length x) p.stored ∙ length-sets l start xs
-
--- One more byte of a word.
-pub word_turn : (l b word : List ℕ) (start i : ℕ) → i < length word → Puts l start (take i word) b (start + i)
-    → Puts l start (take (i + 1) word) (set b (start + i) (get_or word i 0)) (start + (i + 1))
-word_turn l b word start i h p =
-    let e : i + 1 ≡ suc i = omega arith in
-    let f : start + i + 1 ≡ start + suc i = omega arith in
-    rw (e, take-suc word i 0 h, ← f) (puts_after p (puts_byte b (start + i) (get_or word i 0)))
 
 -- ---- a number
 -- One digit,

@@ -1,7 +1,7 @@
 -- A row of numbers, read one after the other.
 use mathlib.Core.Path.{◌≡◌, refl, sym, ap, ◌∙◌}
 use mathlib.Core.List.{List, [], ◌∷◌, ◌++◌, append-nil, append_assoc}
-use mathlib.Core.Option.{Option, none, some}
+use Rattle.std.specs.Prelude.{Option, None, Some}
 use Prim.Native.Nat.{ℕ, ◌+◌, ◌-◌, ◌<◌, ◌≤◌}
 use native.Mathlib.Numerals.{add-one}
 use native.Mathlib.Omega.{arith}
@@ -11,7 +11,6 @@ use Rattle.texts.specs.Row.{number_in, IsRow}
 use Rattle.rules.specs.Split.{before}
 use Rattle.texts.proofs.SplitLaws.{before_take, before_le}
 use Rattle.texts.proofs.RowLaws.{First, row_nothing, row_longer, row_first}
-use Rattle.text.specs.declared.Row.TheVariants.{Count, Wrong}
 use Rattle.text.specs.Promises.{ReadsRow}
 
 -- What is sought is found within the line.
@@ -31,12 +30,12 @@ pub so_far_none : (line : List ℕ) (start : ℕ) (entry : List ℕ) → start �
 so_far_none line start entry h =
     record { here = h; within = omega arith; sized = refl; rest = refl; right = λ ms r. r; only = λ ns r. (ns, refl, r) }
 
-same_number : {m n : ℕ} {o : Option ℕ} → o ≡ some m → some n ≡ o → m ≡ n
+same_number : {m n : ℕ} {o : Option ℕ} → o ≡ Some m → Some n ≡ o → m ≡ n
 same_number p q = cc
 
 module _ (line : List ℕ) (start : ℕ) (entry exit : List ℕ) (next count : ℕ) (f : SoFar line start entry exit next count) where
   -- All is read.
-  pub so_far_all : length line ≤ next → ReadsRow (drop start line) entry exit (Count count)
+  pub so_far_all : length line ≤ next → ReadsRow (drop start line) entry exit (Some count)
   so_far_all h =
       let r = f.right [] (rw (drop_of_length-le line h) row_nothing) in
       record { within = f.within; row = rw (append-nil (take count exit)) at r; rest = f.rest }
@@ -47,11 +46,11 @@ module _ (line : List ℕ) (start : ℕ) (entry exit : List ℕ) (next count : �
     left ms r = row_first (get_or line next 0) (drop (next + 1) line) ms (rw (drop-cons line next 0 h, ← add-one next) at r)
 
     -- the row is wrong if there can be none,
-    pub so_far_wrong : ((ms : List ℕ) → First (get_or line next 0) (drop (next + 1) line) ms → ⊥) → ReadsRow (drop start line) entry exit Wrong
+    pub so_far_wrong : ((ms : List ℕ) → First (get_or line next 0) (drop (next + 1) line) ms → ⊥) → ReadsRow (drop start line) entry exit None
     so_far_wrong none_left ns l r = let o = f.only ns r in none_left o.0 (left o.0 o.2)
 
     -- and if there is no room for it.
-    pub so_far_full : count ≡ length exit → ReadsRow (drop start line) entry exit Wrong
+    pub so_far_full : count ≡ length exit → ReadsRow (drop start line) entry exit None
     so_far_full e ns l r =
         let o = f.only ns r in
         let g = left o.0 o.2 in
@@ -78,7 +77,7 @@ module _ (line : List ℕ) (start : ℕ) (entry exit : List ℕ) (next count : �
       beyond = drop-drop (length (before 32 after)) (next + 1) line ∙ ap (λ (k : ℕ). drop k line) (sym q)
 
       -- It may be none;
-      pub so_far_no_number : none ≡ number_in (take (stop - (next + 1)) after) → ReadsRow (drop start line) entry exit Wrong
+      pub so_far_no_number : None ≡ number_in (take (stop - (next + 1)) after) → ReadsRow (drop start line) entry exit None
       so_far_no_number e =
           so_far_wrong (λ ms g.
           let d = g.reads in
@@ -87,7 +86,7 @@ module _ (line : List ℕ) (start : ℕ) (entry exit : List ℕ) (next count : �
           omega arith)
 
       -- else it is the next.
-      module _ (n : ℕ) (space : get_or line next 0 ≡ 32) (room : count < length exit) (reads : some n ≡ number_in (take (stop - (next + 1)) after)) where
+      module _ (n : ℕ) (space : get_or line next 0 ≡ 32) (room : count < length exit) (reads : Some n ≡ number_in (take (stop - (next + 1)) after)) where
         taken : take (count + 1) (set exit count n) ≡ take count exit ++ (n ∷ [])
         taken = rw (add-one count) (take-suc-set exit count n room)
 

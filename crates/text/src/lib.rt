@@ -4,14 +4,7 @@
 mod reading;
 mod writing;
 
-pub use reading::{find, is_word, opens, read_row};
+pub use reading::{find, is_word, opens, read_row, split_line};
 pub use writing::{
     put_count, put_decimal, put_refused, put_row, put_spaced, put_word, refusal_number,
 };
-
-/// How many numbers a row has; or the bytes are no row that the lent slice takes.
-#[derive(Clone, Copy)]
-pub enum Row {
-    Count(usize),
-    Wrong,
-}

@@ -13,13 +13,13 @@ pub fn put_word(out: &mut [u8], at: usize, word: &[u8]) -> usize
     requires { at + length word.now ≤ length out.old }
     ensures { Puts out.old at word.now out.new result }
 {
-    for i in 0..word.len() {
-        out[at + i] = word[i];
-    }
-    at + word.len()
+    let end = at + word.len();
+    out[at..end].copy_from_slice(word);
+    end
 }
 
-/// The digits of a number: those of a tenth of it, then the last.
+/// The digits of a number: those of a tenth of it, then the last. `write!` into the slice would
+/// need a cursor, and give a Result that says nothing here.
 pub fn put_decimal(out: &mut [u8], at: usize, n: u32) -> usize
     requires { at + length (decimal n) ≤ length out.old }
     ensures { Puts out.old at (decimal n) out.new result }
@@ -48,8 +48,8 @@ pub fn put_row(out: &mut [u8], at: usize, numbers: &[u32]) -> usize
     ensures { PutsWithin (11 * length numbers.now) out.old at (spaced numbers.now) out.new result }
 {
     let mut next = at;
-    for i in 0..numbers.len() {
-        next = put_spaced(out, next, numbers[i]);
+    for &n in numbers {
+        next = put_spaced(out, next, n);
     }
     next
 }
@@ -63,7 +63,7 @@ pub fn put_count(out: &mut [u8], at: usize, word: &[u8], n: u32) -> usize
     put_spaced(out, a, n)
 }
 
-/// The table's number of a refusal.
+/// The table's number of a refusal, row by row as the sheet has it.
 pub fn refusal_number(r: Refusal) -> u32
     ensures { result ≡ number r }
 {

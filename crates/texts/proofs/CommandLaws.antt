@@ -1,4 +1,5 @@
 -- The laws of the command program's lines: a line and what it says.
+use Rattle.std.specs.Prelude.{Option, Some, None}
 use mathlib.Core.Path.{◌≡◌, refl, sym, ap, ap₂, ◌∙◌}
 use mathlib.Core.Bool.{Bool, true, false, ◌&&◌, cond}
 use mathlib.Core.List.{List, [], ◌∷◌, ◌++◌, append-nil}
@@ -7,10 +8,9 @@ use native.Mathlib.Omega.{arith}
 use lib.Dec.{eqb}
 use lib.ListN.{length, get_or, drop, length-append, take-append-drop}
 use borrow.Author.Tests.{eqb-true}
+use Rattle.std.proofs.lemmas.Option.{none-some}
 use Rattle.rules.specs.declared.Command.{Command}
 use Rattle.rules.specs.declared.Command.TheVariants.{Admit, AdmitRange, Drop, Report, Owner, Anchor}
-use Rattle.rules.specs.declared.Line.{Line}
-use Rattle.rules.specs.declared.Line.TheVariants.{Says, Bad}
 use Rattle.rules.specs.Below.{tabulate}
 use Rattle.rules.specs.Text.{byte, text}
 use Rattle.rules.specs.Bytes.{same}
@@ -24,9 +24,6 @@ use Rattle.basics.proofs.BytesLaws.{same_exactly}
 use Rattle.texts.proofs.SplitLaws.{Without, split_piece, split_none, before_without, before_take}
 use Rattle.texts.proofs.DecimalLaws.{decimal_digits}
 use Rattle.texts.proofs.RowLaws.{values_spaced, rest_spaced}
-
-bad≢says : {c : Command} → ◌≡◌ {A = Line} Bad (Says c) → ⊥
-bad≢says e = let z : ◌≡◌ {A = ℕ} 0 1 = cc in omega arith
 
 -- ---- a command, its word and its numbers
 -- No word has a space, and no command more numbers than the most.
@@ -51,7 +48,7 @@ numbers_most (Owner block) = omega arith
 numbers_most (Anchor handle block) = omega arith
 
 -- They name the command,
-pub named_own : (c : Command) → named (word_of c) (numbers_of c) ≡ Says c
+pub named_own : (c : Command) → named (word_of c) (numbers_of c) ≡ Some c
 unfolding named same
 named_own (Admit handle interval floor ceiling) = refl
 named_own (AdmitRange handle smallest largest floor ceiling) = refl
@@ -70,11 +67,11 @@ module _ (word ns : List ℕ) (d : Command) where
   abbrev Own : Type 0
   Own = (word ≡ word_of d) × (ns ≡ numbers_of d)
 
-  by_form : (form : List ℕ) (count : ℕ) (c : Command) (later : Line) → word_of c ≡ form → numbers_of c ≡ tabulate count (λ i. get_or ns i 0)
-      → cond (is_form word ns form count) (Says c) later ≡ Says d → (later ≡ Says d → Own) → Own
+  by_form : (form : List ℕ) (count : ℕ) (c : Command) (later : Option Command) → word_of c ≡ form → numbers_of c ≡ tabulate count (λ i. get_or ns i 0)
+      → cond (is_form word ns form count) (Some c) later ≡ Some d → (later ≡ Some d → Own) → Own
   by_form form count c later w n e other = go (is_form word ns form count) refl e
     where
-      go : (b : Bool) → is_form word ns form count ≡ b → cond b (Says c) later ≡ Says d → Own
+      go : (b : Bool) → is_form word ns form count ≡ b → cond b (Some c) later ≡ Some d → Own
       go true q e =
           let own : c ≡ d = cc in
           let f = both (same word form) (eqb (length ns) count) q in
@@ -82,7 +79,7 @@ module _ (word ns : List ℕ) (d : Command) where
           ((same_exactly word form).0 f.0 ∙ sym w ∙ ap word_of own, sym (rw k at (listed ns)) ∙ sym n ∙ ap numbers_of own)
       go false q e = other e
 
-  pub named_only : named word ns ≡ Says d → Own
+  pub named_only : named word ns ≡ Some d → Own
   unfolding named tabulate
   named_only e =
       by_form (text "admit") 4 _ _ refl refl e λ e.
@@ -90,7 +87,7 @@ module _ (word ns : List ℕ) (d : Command) where
       by_form (text "drop") 1 _ _ refl refl e λ e.
       by_form (text "report") 2 _ _ refl refl e λ e.
       by_form (text "owner") 1 _ _ refl refl e λ e.
-      by_form (text "anchor") 2 _ _ refl refl e λ e. absurd (bad≢says e)
+      by_form (text "anchor") 2 _ _ refl refl e λ e. absurd (none-some _ e)
 
 -- ---- a line, and the command that is guessed
 -- A word with no space, then its numbers.
@@ -100,13 +97,13 @@ guess_spaced word [] h = rw (append-nil word, split_none (byte " ") word h)
 guess_spaced word (n ∷ ns) h = rw (split_piece (byte " ") word (decimal n ++ spaced ns) h) (ap (named word) (values_spaced n ns))
 
 -- A command is guessed from its line.
-pub guess_line : (c : Command) → guess (line_of c) ≡ Says c
+pub guess_line : (c : Command) → guess (line_of c) ≡ Some c
 unfolding line_of
 guess_line c = guess_spaced (word_of c) (numbers_of c) (word_spaceless c) ∙ named_own c
 
 -- Two commands are never the same line.
 pub line_unique : (c d : Command) → line_of c ≡ line_of d → c ≡ d
-line_unique c d e = let same : Says c ≡ Says d = sym (guess_line c) ∙ ap guess e ∙ guess_line d in cc
+line_unique c d e = let same : Some c ≡ Some d = sym (guess_line c) ∙ ap guess e ∙ guess_line d in cc
 
 -- The shortest line of a command is that of a drop.
 pub line_length : (c : Command) → 6 ≤ length (line_of c)
@@ -120,41 +117,41 @@ line_length (Anchor handle block) = omega arith
 
 -- ---- a line, and what it says
 -- A command written out says that command where its numbers fit, and is bad where one does not.
-pub says_own : (c : Command) → says (line_of c) ≡ cond (all_fit (numbers_of c)) (Says c) Bad
+pub says_own : (c : Command) → says (line_of c) ≡ cond (all_fit (numbers_of c)) (Some c) None
 unfolding says confirmed
 says_own c = rw (guess_line c, (same_exactly (line_of c) (line_of c)).1 refl)
 
 -- A line is read as a command exactly if it is that command written out, with numbers that fit;
-pub says_line : (c : Command) → all_fit (numbers_of c) ≡ true → says (line_of c) ≡ Says c
+pub says_line : (c : Command) → all_fit (numbers_of c) ≡ true → says (line_of c) ≡ Some c
 says_line c h = rw (says_own c, h)
 
-pub says_only : (line : List ℕ) (c : Command) → says line ≡ Says c → (line ≡ line_of c) × (all_fit (numbers_of c) ≡ true)
+pub says_only : (line : List ℕ) (c : Command) → says line ≡ Some c → (line ≡ line_of c) × (all_fit (numbers_of c) ≡ true)
 unfolding says confirmed
 says_only line c e = by (guess line) e
   where
-    go : (d : Command) (t : Bool) → same (line_of d) line && all_fit (numbers_of d) ≡ t → cond t (Says d) Bad ≡ Says c → (line ≡ line_of c) × (all_fit (numbers_of c) ≡ true)
+    go : (d : Command) (t : Bool) → same (line_of d) line && all_fit (numbers_of d) ≡ t → cond t (Some d) None ≡ Some c → (line ≡ line_of c) × (all_fit (numbers_of c) ≡ true)
     go d true q e =
         let own : d ≡ c = cc in
         let h = rw own at (both (same (line_of d) line) (all_fit (numbers_of d)) q) in
         (sym ((same_exactly (line_of c) line).0 h.0), h.1)
-    go d false q e = absurd (bad≢says e)
+    go d false q e = absurd (none-some _ e)
 
-    by : (l : Line) → confirmed line l ≡ Says c → (line ≡ line_of c) × (all_fit (numbers_of c) ≡ true)
-    by Bad e = absurd (bad≢says e)
-    by (Says d) e = go d (same (line_of d) line && all_fit (numbers_of d)) refl e
+    by : (l : Option Command) → confirmed line l ≡ Some c → (line ≡ line_of c) × (all_fit (numbers_of c) ≡ true)
+    by None e = absurd (none-some _ e)
+    by (Some d) e = go d (same (line_of d) line && all_fit (numbers_of d)) refl e
 
 -- and every other line is bad.
-pub says_bad : (line : List ℕ) → ((c : Command) → all_fit (numbers_of c) ≡ true → line ≡ line_of c → ⊥) → says line ≡ Bad
+pub says_bad : (line : List ℕ) → ((c : Command) → all_fit (numbers_of c) ≡ true → line ≡ line_of c → ⊥) → says line ≡ None
 says_bad line h = go (says line) refl
   where
-    go : (l : Line) → says line ≡ l → says line ≡ Bad
-    go Bad e = e
-    go (Says c) e =
+    go : (l : Option Command) → says line ≡ l → says line ≡ None
+    go None e = e
+    go (Some c) e =
         let r = says_only line c e in
         absurd (h c r.1 r.0)
 
-pub bad_only : (line : List ℕ) → says line ≡ Bad → (c : Command) → all_fit (numbers_of c) ≡ true → line ≡ line_of c → ⊥
-bad_only line e c h q = bad≢says (sym e ∙ ap says q ∙ says_line c h)
+pub bad_only : (line : List ℕ) → says line ≡ None → (c : Command) → all_fit (numbers_of c) ≡ true → line ≡ line_of c → ⊥
+bad_only line e c h q = none-some _ (sym e ∙ ap says q ∙ says_line c h)
 
 -- ---- a line, read as a word and a row
 abbrev word_in : List ℕ → List ℕ
@@ -174,15 +171,15 @@ says_row line ns r = go (named (word_in line) ns) refl
     guessed : guess line ≡ named (word_in line) ns
     guessed = ap guess whole ∙ guess_spaced (word_in line) ns (before_without (byte " ") line)
 
-    go : (l : Line) → named (word_in line) ns ≡ l → says line ≡ l
-    go Bad e = ap (confirmed line) (guessed ∙ e)
-    go (Says c) e =
+    go : (l : Option Command) → named (word_in line) ns ≡ l → says line ≡ l
+    go None e = ap (confirmed line) (guessed ∙ e)
+    go (Some c) e =
         let own = named_only (word_in line) ns c e in
         let q : line ≡ line_of c = whole ∙ ap₂ {C = List ℕ} (λ x y. x ++ spaced y) own.0 own.1 in
         ap says q ∙ says_line c (ap all_fit (sym own.1) ∙ r.fit)
 
 -- without such a row it is bad.
-pub says_no_row : (line : List ℕ) → ((ns : List ℕ) → length ns ≤ most_numbers → IsRow (row_in line) ns → ⊥) → says line ≡ Bad
+pub says_no_row : (line : List ℕ) → ((ns : List ℕ) → length ns ≤ most_numbers → IsRow (row_in line) ns → ⊥) → says line ≡ None
 unfolding line_of
 says_no_row line h = says_bad line (λ c fit e. h (numbers_of c) (numbers_most c) (record { is = rest c e; fit = fit }))
   where

@@ -3,7 +3,7 @@ use mathlib.Core.Path.{◌≡◌, refl, sym, ap, ap₂, ◌∙◌}
 use mathlib.Core.Bool.{Bool, true, false, ◌&&◌, cond}
 use mathlib.Core.Logic.{◌≢◌, by_cases}
 use mathlib.Core.List.{List, [], ◌∷◌, ◌++◌}
-use mathlib.Core.Option.{Option, none, some}
+use Rattle.std.specs.Prelude.{Option, None, Some}
 use Prim.Native.Nat.{ℕ, zero, suc, ◌+◌, ◌-◌, ◌*◌, ◌/◌, ◌%◌, ◌^◌, ◌<◌, ◌≤◌}
 use native.Mathlib.Nat.{pow-suc}
 use native.Mathlib.Decide.{dec_lt}
@@ -159,15 +159,15 @@ decimal_length (suc k) n h =
     (λ s. rw (decimal_more n (omega arith), length-append) (omega (arith, decimal_length k (n / 10) (omega arith))))
 
 -- ---- "at most 2^32 − 1": digits read back as the number, and no other bytes do
-pub number_digits : (n : ℕ) → n < 2 ^ 32 → number_in (decimal n) ≡ some n
+pub number_digits : (n : ℕ) → n < 2 ^ 32 → number_in (decimal n) ≡ Some n
 unfolding number_in fits
 number_digits n h = rw (value_decimal n, (same_exactly (decimal n) (decimal n)).1 refl, lt-ltb n (2 ^ 32) h)
 
-pub number_only : (ds : List ℕ) (n : ℕ) → number_in ds ≡ some n → (ds ≡ decimal n) × (n < 2 ^ 32)
+pub number_only : (ds : List ℕ) (n : ℕ) → number_in ds ≡ Some n → (ds ≡ decimal n) × (n < 2 ^ 32)
 unfolding number_in fits
 number_only ds n e = go (same (decimal (value ds)) ds && fits (value ds)) refl e
   where
-    go : (v : Bool) → same (decimal (value ds)) ds && fits (value ds) ≡ v → cond v (some (value ds)) none ≡ some n → (ds ≡ decimal n) × (n < 2 ^ 32)
+    go : (v : Bool) → same (decimal (value ds)) ds && fits (value ds) ≡ v → cond v (Some (value ds)) None ≡ Some n → (ds ≡ decimal n) × (n < 2 ^ 32)
     go true t e =
         let s : value ds ≡ n = cc in
         let p = both (same (decimal (value ds)) ds) (fits (value ds)) t in
@@ -175,33 +175,33 @@ number_only ds n e = go (same (decimal (value ds)) ds && fits (value ds)) refl e
     go false t e = let z : ◌≡◌ {A = ℕ} 0 1 = cc in absurd (omega arith)
 
 -- So digits are read as what they say.
-pub number_right : (ds : List ℕ) → Digits ds → value ds < 2 ^ 32 → number_in ds ≡ some (value ds)
+pub number_right : (ds : List ℕ) → Digits ds → value ds < 2 ^ 32 → number_in ds ≡ Some (value ds)
 number_right ds r h = ap number_in (sym (digits_decimal ds r)) ∙ number_digits (value ds) h
 
 -- ---- why bytes are no number
 -- No number that fits has them for its digits.
-pub number_none : (ds : List ℕ) → ((n : ℕ) → ds ≡ decimal n → n < 2 ^ 32 → ⊥) → number_in ds ≡ none
+pub number_none : (ds : List ℕ) → ((n : ℕ) → ds ≡ decimal n → n < 2 ^ 32 → ⊥) → number_in ds ≡ None
 number_none ds h = go (number_in ds) refl
   where
-    go : (o : Option ℕ) → number_in ds ≡ o → number_in ds ≡ none
-    go none e = e
-    go (some n) e =
+    go : (o : Option ℕ) → number_in ds ≡ o → number_in ds ≡ None
+    go None e = e
+    go (Some n) e =
         let r = number_only ds n e in
         absurd (h n r.0 r.1)
 
 -- They are not digits.
-not_digits : (ds : List ℕ) → (Digits ds → ⊥) → number_in ds ≡ none
+not_digits : (ds : List ℕ) → (Digits ds → ⊥) → number_in ds ≡ None
 not_digits ds h = number_none ds (λ n e l. h (rw e (decimal_digits n)))
 
-pub number_empty : number_in [] ≡ none
+pub number_empty : number_in [] ≡ None
 number_empty = not_digits [] (λ r. omega arith)
 
-pub number_not_digit : (ds : List ℕ) (i : ℕ) → i < length ds → (Digit (get_or ds i 0) → ⊥) → number_in ds ≡ none
+pub number_not_digit : (ds : List ℕ) (i : ℕ) → i < length ds → (Digit (get_or ds i 0) → ⊥) → number_in ds ≡ None
 number_not_digit ds i l h = not_digits ds (λ r. h (r.each i l))
 
-pub number_leading : (ds : List ℕ) → 1 < length ds → get_or ds 0 0 ≡ byte "0" → number_in ds ≡ none
+pub number_leading : (ds : List ℕ) → 1 < length ds → get_or ds 0 0 ≡ byte "0" → number_in ds ≡ None
 number_leading ds l e = not_digits ds (λ r. r.leading l e)
 
 -- The first of them already say too much.
-pub number_large : (ds : List ℕ) (i : ℕ) → 2 ^ 32 ≤ value (take i ds) → number_in ds ≡ none
+pub number_large : (ds : List ℕ) (i : ℕ) → 2 ^ 32 ≤ value (take i ds) → number_in ds ≡ None
 number_large ds i h = number_none ds (λ n e l. omega (arith, value_prefix i ds, ap value e ∙ value_decimal n))

@@ -3,7 +3,7 @@ use mathlib.Core.Path.{◌≡◌, refl, sym, ap, ap₂, ◌∙◌}
 use mathlib.Core.Bool.{◌&&◌}
 use mathlib.Core.List.{List, [], ◌∷◌, ◌++◌, map, append-nil}
 use mathlib.Core.Logic.{◌≢◌}
-use mathlib.Core.Option.{some}
+use Rattle.std.specs.Prelude.{Some}
 use Prim.Native.Nat.{ℕ, suc, ◌<◌, ◌^◌}
 use native.Mathlib.Omega.{arith}
 use lib.ListN.{length, get_or, drop, take-append-drop}
@@ -57,7 +57,7 @@ unfolding spaced all_fit
 row_nothing = record { is = refl; fit = refl }
 
 -- a space and a number in front of a row make one that is longer,
-pub row_longer : (bs : List ℕ) (n : ℕ) (ns : List ℕ) → number_in (before (byte " ") bs) ≡ some n → IsRow (drop (length (before (byte " ") bs)) bs) ns
+pub row_longer : (bs : List ℕ) (n : ℕ) (ns : List ℕ) → number_in (before (byte " ") bs) ≡ Some n → IsRow (drop (length (before (byte " ") bs)) bs) ns
     → IsRow (byte " " ∷ bs) (n ∷ ns)
 unfolding spaced all_fit fits
 row_longer bs n ns e later =
@@ -75,7 +75,7 @@ pub record First (b : ℕ) (bs ns : List ℕ) : Type 0 where
   pub later : List ℕ
   pub is : ns ≡ n ∷ later
   pub space : b ≡ byte " "
-  pub reads : number_in (before (byte " ") bs) ≡ some n
+  pub reads : number_in (before (byte " ") bs) ≡ Some n
   pub row : IsRow (drop (length (before (byte " ") bs)) bs) later
 
 -- Its first number, and the row behind it.

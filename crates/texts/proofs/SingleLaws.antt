@@ -1,4 +1,5 @@
 -- The four-number line and the five-number line with 6: two lines, and one call.
+use Rattle.std.specs.Prelude.{Some, None}
 use mathlib.Core.Path.{◌≡◌, refl, sym, ap, ◌∙◌}
 use mathlib.Core.Bool.{Bool, true, false, cond}
 use mathlib.Core.List.{List, [], ◌∷◌, ◌++◌}
@@ -7,7 +8,6 @@ use native.Mathlib.Omega.{arith}
 use Rattle.rules.specs.declared.Schedule.{Schedule}
 use Rattle.rules.specs.declared.Command.{Command}
 use Rattle.rules.specs.declared.Command.TheVariants.{Admit, AdmitRange}
-use Rattle.rules.specs.declared.Line.TheVariants.{Says, Bad}
 use Rattle.rules.specs.Text.{text}
 use Rattle.rules.specs.Decimal.{fits}
 use Rattle.rules.specs.Words.{spaced}
@@ -42,6 +42,6 @@ module _ (handle interval floor ceiling : ℕ) where
   unfolding line_of all_fit fits carried_out obey
   single_as_range s = ap (carried_out s) (says_own single) ∙ either (all_fit (numbers_of single)) ∙ sym (ap (carried_out s) (says_own range))
     where
-      either : (fit : Bool) → carried_out s (cond fit (Says single) Bad) ≡ carried_out s (cond fit (Says range) Bad)
+      either : (fit : Bool) → carried_out s (cond fit (Some single) None) ≡ carried_out s (cond fit (Some range) None)
       either true = refl
       either false = refl

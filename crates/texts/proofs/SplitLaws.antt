@@ -5,8 +5,8 @@ use mathlib.Core.List.{List, [], ◌∷◌, ◌++◌}
 use Prim.Native.Nat.{ℕ, suc, ◌<◌, ◌≤◌}
 use native.Mathlib.Decide.{ℕ_discrete}
 use native.Mathlib.Omega.{arith}
-use lib.ListN.{length, get_or, take, drop, length-take, drop_of_length-le}
-use lib.Seq.{take_all, drop-cons}
+use lib.ListN.{length, take, drop, length-take}
+use lib.Seq.{take_all}
 use borrow.Author.Tests.{eq-eqb, ne_eqb}
 use Rattle.rules.specs.Split.{Parts, longer, parted, before}
 
@@ -153,18 +153,3 @@ pub before_of_all : (separator : ℕ) (bs : List ℕ) → Without separator bs �
 unfolding before
 before_of_all separator [] h = refl
 before_of_all separator (b ∷ bs) h = before_other bs h.0 ∙ ap {B = List ℕ} (λ l. b ∷ l) (before_of_all separator bs h.1)
-
--- ---- a search from place i on
--- Another byte is passed by;
-pub before_past : (separator : ℕ) (bs : List ℕ) (i : ℕ) → i < length bs → get_or bs i 0 ≢ separator
-    → length (before separator (drop i bs)) ≡ suc (length (before separator (drop (suc i) bs)))
-before_past separator bs i h e = rw (drop-cons bs i 0 h, before_other (drop (suc i) bs) e)
-
--- a separator ends it,
-pub before_found : (separator : ℕ) (bs : List ℕ) (i : ℕ) → i < length bs → get_or bs i 0 ≡ separator → before separator (drop i bs) ≡ []
-before_found separator bs i h e = rw (drop-cons bs i 0 h, before_separator (drop (suc i) bs) e)
-
--- and so does the end of the bytes.
-pub before_end : (separator : ℕ) (bs : List ℕ) (i : ℕ) → length bs ≤ i → before separator (drop i bs) ≡ []
-unfolding before
-before_end separator bs i h = rw (drop_of_length-le bs h)

@@ -13,8 +13,9 @@ use lib.ListN.{length, get_or, set, replicate, length-set, length-replicate}
 use borrow.Author.Tests.{eqb-true}
 use Rattle.rules.specs.declared.Connection.{Connection}
 use Rattle.rules.specs.declared.Schedule.{Schedule}
-use Rattle.rules.specs.declared.Refusal.TheVariants.{NoOpenAnchor}
-use Rattle.rules.specs.declared.Arranged.{Arranged}
+use Rattle.rules.specs.declared.Refusal.TheVariants.{NoOpenAnchor, NoAnchorForAll}
+use Rattle.std.specs.Prelude.{Result, Ok, Err, is_ok}
+use Rattle.rules.specs.declared.Refusal.{Refusal}
 use Rattle.rules.specs.Below.{in_turn, those}
 use Rattle.rules.specs.Ownership.{handles, largest_k, nobody, free_slots, at, taken}
 use Rattle.rules.specs.Mirror.{mirrored}
@@ -120,24 +121,23 @@ module _ (cs : List Connection) (k h : ℕ) (start new : Schedule) (room : List 
   placing_tree = (taken new.connections, p.has_tree)
 
   -- All of them.
-  pub placing_ends : (r : Arranged) → h ≡ handles → r.all ≡ true → r.schedule ≡ new → ArrangesDepth cs k start room r
+  pub placing_ends : h ≡ handles → ArrangesDepth cs k start new room (Ok tt)
   unfolding of_depth
-  placing_ends r e all is =
+  placing_ends e =
       let one : suc k - 1 ≡ k = omega arith in
-      subst⁻¹ (DepthEnds cs k room r) (ap (λ (n : ℕ). place_all cs (those n (at_depth cs k)) start.connections) (sym e) ∙ p.found) (
-        all,
-        ap (λ (s : Schedule). s.connections) is,
-        subst⁻¹ (λ (s : Schedule). Reaches cs (suc k) s room) is (
-            record {
-              placed = record {
-                places = p.places;
-                has_tree = p.has_tree;
-                coarse = λ g live. omega (arith, p.coarse g live);
-                ahead = λ g l. p.deeper g (omega arith);
-              };
-              long = p.long;
-              row = subst⁻¹ (λ (n : ℕ). Row (2 ^ n) new.connections room) one p.row;
-            }),
+      subst⁻¹ (DepthEnds cs k new room (Ok tt)) (ap (λ (n : ℕ). place_all cs (those n (at_depth cs k)) start.connections) (sym e) ∙ p.found) (
+        refl,
+        refl,
+        record {
+          placed = record {
+            places = p.places;
+            has_tree = p.has_tree;
+            coarse = λ g live. omega (arith, p.coarse g live);
+            ahead = λ g l. p.deeper g (omega arith);
+          };
+          long = p.long;
+          row = subst⁻¹ (λ (n : ℕ). Row (2 ^ n) new.connections room) one p.row;
+        },
       )
 
   -- It is one of them.
@@ -152,10 +152,10 @@ module _ (cs : List Connection) (k h : ℕ) (start new : Schedule) (room : List 
     more = rw (add-one h) (those_more h (at_depth cs k) e)
 
     -- The search finds no anchor for it: one of the depth finds none.
-    pub placing_stops : (r : Arranged) (room' : List ℕ) → refuses (number NoOpenAnchor) ≡ place_step (taken new.connections) k (at cs h).length → r.all ≡ false
-        → ArrangesDepth cs k start room' r
+    pub placing_stops : (after : Schedule) (exit : List ℕ) → refuses (number NoOpenAnchor) ≡ place_step (taken new.connections) k (at cs h).length
+        → ArrangesDepth cs k start after exit (Err NoAnchorForAll)
     unfolding of_depth
-    placing_stops r room' s all =
+    placing_stops after exit s =
         let w = those_first (h + 1) handles (at_depth cs k) (omega arith) in
         let none_here : placed_next new.connections (at cs h) ≡ none =
         next_none new.connections (at cs h) (s ∙ ap (λ (x : ℕ). place_step (taken new.connections) x (at cs h).length) (sym is_deep)) in
@@ -165,7 +165,7 @@ module _ (cs : List Connection) (k h : ℕ) (start new : Schedule) (room : List 
         (ap (λ (hs : List ℕ). place_all cs hs start.connections) more
         ∙ place_then cs (those h (at_depth cs k)) (h ∷ []) start.connections new.connections p.found
         ∙ place_one_none cs h new.connections none_here) in
-        subst⁻¹ (DepthEnds cs k room' r) stuck all
+        subst⁻¹ (DepthEnds cs k after exit (Err NoAnchorForAll)) stuck refl
 
     -- It finds A: that is below F,
     module _ (A : ℕ) (s : gives A ≡ place_step (taken new.connections) k (at cs h).length) where
@@ -238,38 +238,45 @@ all_begins cs new e =
       };
     })
 
-module _ (cs : List Connection) (k : ℕ) (new : Schedule) (room : List ℕ) (p : AllTo cs k new room) (r : Arranged) (exit : List ℕ) (d : ArrangesDepth cs k new exit r) where
+same_err : {a b : Refusal} → ◌≡◌ {A = Result Unit Refusal} (Err a) (Err b) → a ≡ b
+same_err q = cc
+
+-- A depth is not placed and stuck at once.
+ended : {A : Type 0} {why : Refusal} → ◌≡◌ {A = Result Unit Refusal} (Ok tt) (Err why) → A
+ended e = absurd (false≢true (sym (ap is_ok e)))
+
+module _ (cs : List Connection) (k : ℕ) (new after : Schedule) (room exit : List ℕ) (p : AllTo cs k new room) (r : Result Unit Refusal) (d : ArrangesDepth cs k new after exit r) where
   deeper : place_all cs (in_turn (suc k) (of_depth cs)) free_slots ≡ place_all cs (of_depth cs k) new.connections
   deeper =
       ap (λ (hs : List ℕ). place_all cs hs free_slots) (turn_next k (of_depth cs))
       ∙ place_then cs (in_turn k (of_depth cs)) (of_depth cs k) free_slots new.connections p.found
 
   -- So are those of depth k.
-  pub all_next : r.all ≡ true → AllTo cs (k + 1) r.schedule exit
+  pub all_next : r ≡ Ok tt → AllTo cs (k + 1) after exit
   all_next all = rw (add-one k) (go (place_all cs (of_depth cs k) new.connections) deeper d)
     where
-      go : (o : Option (List Connection)) → place_all cs (in_turn (suc k) (of_depth cs)) free_slots ≡ o → DepthEnds cs k exit r o
-          → AllTo cs (suc k) r.schedule exit
-      go none e fails = absurd (false≢true (sym fails ∙ all))
+      go : (o : Option (List Connection)) → place_all cs (in_turn (suc k) (of_depth cs)) free_slots ≡ o → DepthEnds cs k after exit r o
+          → AllTo cs (suc k) after exit
+      go none e fails = ended (sym all ∙ fails)
       go (some placed) e w = record { found = e ∙ ap some (sym w.1); reaches = w.2 }
 
   -- One of them finds no anchor, so not all do.
-  pub all_stops : k ≤ largest_k → r.all ≡ false → (t : Arranged) → t.all ≡ false → Arranges (arranged cs) t
+  pub all_stops : k ≤ largest_k → (why : Refusal) → r ≡ Err why → Arranges (arranged cs) (Err why)
   unfolding arranged tidy_order
-  all_stops hk fails t all = go (place_all cs (of_depth cs k) new.connections) deeper d
+  all_stops hk why fails = go (place_all cs (of_depth cs k) new.connections) deeper d
     where
-      go : (o : Option (List Connection)) → place_all cs (in_turn (suc k) (of_depth cs)) free_slots ≡ o → DepthEnds cs k exit r o → Arranges (arranged cs) t
+      go : (o : Option (List Connection)) → place_all cs (in_turn (suc k) (of_depth cs)) free_slots ≡ o → DepthEnds cs k after exit r o → Arranges (arranged cs) (Err why)
       go none e w =
-          subst⁻¹ (λ (o : Option (List Connection)). Arranges o t)
+          subst⁻¹ (λ (o : Option (List Connection)). Arranges o (Err why))
           (ap (λ (hs : List ℕ). place_all cs hs free_slots) (turn_first (suc k) (suc largest_k) (of_depth cs) (omega arith))
           ∙ place_stuck cs (in_turn (suc k) (of_depth cs)) (in_turn (suc largest_k - suc k) (λ i. of_depth cs (suc k + i))) free_slots e)
-          all
-      go (some placed) e w = absurd (false≢true (sym fails ∙ w.0))
+          (ap Err (same_err (sym fails ∙ w)))
+      go (some placed) e w = ended (sym w.0 ∙ fails)
 
 -- All are placed.
-pub all_ends : (cs : List Connection) (k : ℕ) (new : Schedule) (room : List ℕ) → AllTo cs k new room → k ≡ suc largest_k → (t : Arranged) → t.all ≡ true
-    → t.schedule ≡ new → Arranges (arranged cs) t
+pub all_ends : (cs : List Connection) (k : ℕ) (new : Schedule) (room : List ℕ) → AllTo cs k new room → k ≡ suc largest_k
+    → Arranges (arranged cs) (Ok new)
 unfolding arranged tidy_order with_connections
-all_ends cs k new room p e t all is =
-    subst⁻¹ (λ (o : Option (List Connection)). Arranges o t) (ap (λ (n : ℕ). place_all cs (in_turn n (of_depth cs)) free_slots) (sym e) ∙ p.found)
-    (all, is ∙ ap (λ (bytes : List ℕ). record { connections = new.connections; tree = record { bytes = bytes } }) p.reaches.placed.has_tree)
+all_ends cs k new room p e =
+    subst⁻¹ (λ (o : Option (List Connection)). Arranges o (Ok new)) (ap (λ (n : ℕ). place_all cs (in_turn n (of_depth cs)) free_slots) (sym e) ∙ p.found)
+    (ap (λ (bytes : List ℕ). Ok (record { connections = new.connections; tree = record { bytes = bytes } })) p.reaches.placed.has_tree)

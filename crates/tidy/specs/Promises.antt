@@ -1,28 +1,31 @@
 -- What a tidy promises, and the functions within.
-use Rattle.std.specs.Prelude.{ℕ, suc, ◌-◌, ◌/◌, ◌^◌, ◌<◌, ◌≤◌, ◌≡◌, true, false, cond, List, ltb, length, get_or}
+use Rattle.std.specs.Prelude.{ℕ, suc, ◌-◌, ◌/◌, ◌^◌, ◌<◌, ◌≤◌, ◌≡◌, true, cond, List, ltb, length, get_or, Result, Ok, Err}
 use Rattle.std.proofs.Math.Option.{Option, none, some}
 use Rattle.std.proofs.lemmas.List.Edits.{sets}
 use Rattle.rules.specs.declared.Connection.{Connection}
 use Rattle.rules.specs.declared.Schedule.{Schedule}
-use Rattle.rules.specs.declared.Arranged.{Arranged}
-use Rattle.rules.specs.declared.Tidied.{Tidied}
-use Rattle.rules.specs.declared.Tidying.TheVariants.{Refused}
+use Rattle.rules.specs.declared.Done.{Done}
 use Rattle.rules.specs.declared.Refusal.{Refusal}
+use Rattle.rules.specs.declared.Refusal.TheVariants.{NoAnchorForAll}
 use Rattle.rules.specs.Time.{minus_mod}
 use Rattle.rules.specs.Ownership.{handles, nobody, at, taken}
 use Rattle.rules.specs.Good.{Good, tree_for, fresh, with_connections}
-use Rattle.rules.specs.Answers.{of_tidied}
+use Rattle.rules.specs.Answers.{of_tidying, listed}
 use Rattle.rules.specs.Tidy.{of_depth, place_all, Move, movers, entry_of, tidy}
 use Rattle.place.specs.Promises.{row_classes}
 
 -- The call: its answer, the schedule afterwards and every number of the lent list are what the rule gives; and the schedule is good again.
-pub record Tidies (s : Schedule) (entry exit : List ℕ) (r : Tidied) : Type 0 where
-  pub is : of_tidied r exit ≡ tidy s entry
+pub record Tidies (s : Schedule) (entry exit : List ℕ) (r : Done (Result ℕ Refusal)) : Type 0 where
+  pub is : listed of_tidying r exit ≡ tidy s entry
   pub good : Good r.schedule
 
--- ---- within: a refusal
-abbrev pub refused_tidy : Schedule → Refusal → Tidied
-refused_tidy s why = record { answer = Refused why; schedule = s }
+-- ---- within: the moves and the schedule, or the refusal
+abbrev pub done_over : Schedule → Result (ℕ × Schedule) Refusal → Done (Result ℕ Refusal)
+done_over s (Ok r) = record { answer = Ok r.0; schedule = r.1 }
+done_over s (Err why) = record { answer = Err why; schedule = s }
+
+abbrev pub TidiesTo : Schedule → List ℕ → List ℕ → Result (ℕ × Schedule) Refusal → Type 0
+TidiesTo s entry exit r = Tidies s entry exit (done_over s r)
 
 -- ---- within: the row
 -- The first n numbers of a row: 1 where the block is free of the connections, 0 where it is taken.
@@ -55,17 +58,17 @@ pub record Reaches (cs : List Connection) (k : ℕ) (new : Schedule) (room : Lis
   pub row : Row (2 ^ (k - 1)) new.connections room
 
 -- After depth k: those of the depth are placed too; or one of them finds no anchor.
-abbrev pub DepthEnds : List Connection → ℕ → List ℕ → Arranged → Option (List Connection) → Type 0
-DepthEnds cs k room r none = r.all ≡ false
-DepthEnds cs k room r (some placed) = (r.all ≡ true) × (r.schedule.connections ≡ placed) × Reaches cs (suc k) r.schedule room
+abbrev pub DepthEnds : List Connection → ℕ → Schedule → List ℕ → Result Unit Refusal → Option (List Connection) → Type 0
+DepthEnds cs k after room r none = r ≡ Err NoAnchorForAll
+DepthEnds cs k after room r (some placed) = (r ≡ Ok tt) × (after.connections ≡ placed) × Reaches cs (suc k) after room
 
-abbrev pub ArrangesDepth : List Connection → ℕ → Schedule → List ℕ → Arranged → Type 0
-ArrangesDepth cs k new room r = DepthEnds cs k room r (place_all cs (of_depth cs k) new.connections)
+abbrev pub ArrangesDepth : List Connection → ℕ → Schedule → Schedule → List ℕ → Result Unit Refusal → Type 0
+ArrangesDepth cs k before after room r = DepthEnds cs k after room r (place_all cs (of_depth cs k) before.connections)
 
 -- The schedule of all connections that are placed, with their tree; or one of them finds no anchor.
-abbrev pub Arranges : Option (List Connection) → Arranged → Type 0
-Arranges none r = r.all ≡ false
-Arranges (some placed) r = (r.all ≡ true) × (r.schedule ≡ with_connections fresh placed)
+abbrev pub Arranges : Option (List Connection) → Result Schedule Refusal → Type 0
+Arranges none r = r ≡ Err NoAnchorForAll
+Arranges (some placed) r = r ≡ Ok (with_connections fresh placed)
 
 -- ---- within: the moves
 -- How many anchors differ: at most one for each handle.

@@ -1,27 +1,25 @@
 //! The moves: for each live handle whose anchor differs, by rising handle, an entry of the lent list.
 ghost use Rattle.std.specs.Prelude.{◌≡◌, ◌&&◌, ◌+◌, ◌*◌, ◌≤◌, length};
-ghost use Rattle.rules.specs.Ownership.{handles};
 ghost use Rattle.rules.specs.Lent.{over};
 ghost use Rattle.rules.specs.Tidy.{differs, movers, moves as moves_of, move_width, entries};
 ghost use Rattle.tidy.specs.Promises.{Counts, move_named, PutsMove};
 
-use rules::{Connection, HANDLES, MOVE_WIDTH, Schedule};
+use rules::{Connection, MOVE_WIDTH, Schedule};
 
 // Whether a live connection has another anchor.
 fn has_moved(old: Connection, new: Connection) -> bool
     ensures { result ≡ (old.live && differs old new) }
 {
-    old.live & (old.anchor != new.anchor)
+    old.live && old.anchor != new.anchor
 }
 
 // How many anchors differ.
-pub fn count_moves(old: Schedule, new: Schedule) -> usize
-    requires { (length old.connections ≡ handles) × (length new.connections ≡ handles) }
-    ensures { Counts old.connections new.connections result }
+pub fn count_moves(old: &Schedule, new: &Schedule) -> usize
+    ensures { Counts old.now.connections new.now.connections result }
 {
     let mut n: usize = 0;
-    for h in 0..HANDLES {
-        if has_moved(old.connections[h], new.connections[h]) {
+    for (h, c) in old.connections.iter().enumerate() {
+        if has_moved(*c, new.connections[h]) {
             n += 1;
         }
     }
@@ -39,15 +37,14 @@ fn put_move(list: &mut [u32], at: usize, handle: u32, old: u32, new: u32)
 }
 
 // The entries, from the list's start.
-pub fn put_moves(old: Schedule, new: Schedule, list: &mut [u32])
-    requires { (length old.connections ≡ handles) × (length new.connections ≡ handles) × (move_width * length (movers old.connections new.connections) ≤ length list.old) }
-    ensures { list.new ≡ over (entries (moves_of old.connections new.connections)) list.old }
+pub fn put_moves(old: &Schedule, new: &Schedule, list: &mut [u32])
+    requires { move_width * length (movers old.now.connections new.now.connections) ≤ length list.old }
+    ensures { list.new ≡ over (entries (moves_of old.now.connections new.now.connections)) list.old }
 {
     let mut at: usize = 0;
-    for h in 0..HANDLES {
-        let c = old.connections[h];
+    for (h, c) in old.connections.iter().enumerate() {
         let d = new.connections[h];
-        if has_moved(c, d) {
+        if has_moved(*c, d) {
             put_move(list, at, h as u32, c.anchor, d.anchor);
             at += MOVE_WIDTH;
         }

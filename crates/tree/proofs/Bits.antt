@@ -23,10 +23,7 @@ use Rattle.tree.specs.Promises.{Writes}
 use Rattle.basics.proofs.BelowLaws.{every_at}
 use Rattle.blocks.proofs.MirrorLaws.{mirror_lt}
 
--- ---- masks as remainders, at the literals that the code has
-pub and1 : (n : ℕ) → bit_and n 1 ≡ n % 2
-and1 n = and_mask n 1
-
+-- ---- a mask as a remainder, at the literal that the code has
 pub and7 : (n : ℕ) → bit_and n 7 ≡ n % 8
 and7 n = and_mask n 3
 
@@ -70,7 +67,7 @@ and_bit a b j =
     ∙ and2 (a / 2 ^ j % 2) (b / 2 ^ j % 2) (omega arith) (omega arith)
 
 -- what the test of two bits says
-pub beq_true : (a b : Bool) → beq a b ≡ true → a ≡ b
+beq_true : (a b : Bool) → beq a b ≡ true → a ≡ b
 beq_true true true e = refl
 beq_true true false e = absurd (false≢true e)
 beq_true false true e = absurd (false≢true e)

@@ -1,6 +1,6 @@
 -- Joining the ancestors of a node, and the tree that comes of it.
 use mathlib.Core.Path.{◌≡◌, refl, sym, ap, ◌∙◌, subst}
-use mathlib.Core.Bool.{Bool, true, false, ◌||◌, ◌&&◌, not, cond, or_self}
+use mathlib.Core.Bool.{Bool, true, false, ◌||◌, cond, or_self}
 use mathlib.Core.Logic.{◌≢◌, by_cases}
 use mathlib.Core.List.{List}
 use Prim.Native.Nat.{ℕ, ◌+◌, ◌-◌, ◌*◌, ◌/◌, ◌^◌, ◌<◌, ◌≤◌}
@@ -10,11 +10,10 @@ use native.Mathlib.Omega.{arith}
 use lib.Pow.{pow_pos, pow-add}
 use borrow.Author.Tests.{eqb-false, eq-eqb, ne_eqb}
 use Rattle.rules.specs.Classes.{depth, in_class}
-use Rattle.blocks.specs.Taking.{with_class, without_class}
 use Rattle.rules.specs.Mirror.{mirrored}
-use Rattle.rules.specs.TreeBytes.{tree_of, bit_at}
+use Rattle.rules.specs.TreeBytes.{bit_at}
 use Rattle.blocks.specs.Children.{OrOfChildren}
-use Rattle.blocks.proofs.TreeLaws.{tree_root, tree_leaves, tree_of_leaves, tree_ext}
+use Rattle.blocks.proofs.TreeLaws.{tree_root, tree_leaves, tree_of_leaves}
 use Rattle.tree.specs.Under.{under}
 use Rattle.tree.specs.Promises.{WritesBelow, Joins, MissingOver, JoinsAbove, WritesClass}
 use Rattle.tree.proofs.Bits.{node_lt}
@@ -98,19 +97,3 @@ class_written k r n v t c t' hk hr e w j f tree =
         j.others (512 + p) (omega arith) (under_lt 9 (512 + p) (n / 2) (omega (arith, inside)))
         ∙ w.bits (512 + p)
         ∙ rw (u, tree, tree_leaves f p hp)
-
--- a class with the bit 1 is taken, and with the bit 0 given back
-cond_true : (u b : Bool) → cond u true b ≡ u || b
-cond_true true b = refl
-cond_true false b = refl
-
-cond_false : (u b : Bool) → cond u false b ≡ not u && b
-cond_false true b = refl
-cond_false false b = refl
-
-module _ (k r : ℕ) (f : ℕ → Bool) where
-  pub taken_class : tree_of (λ b. cond (in_class k r b) true (f b)) ≡ tree_of (with_class k r f)
-  taken_class = tree_ext _ _ (λ b l. cond_true (in_class k r b) (f b))
-
-  pub given_class : tree_of (λ b. cond (in_class k r b) false (f b)) ≡ tree_of (without_class k r f)
-  given_class = tree_ext _ _ (λ b l. cond_false (in_class k r b) (f b))

@@ -1,4 +1,7 @@
 //! The tree of taken blocks: a bit for each node.
+//!
+//! The functions take the bytes, and are no methods of `Tree`: that stands in `rules`, below this
+//! crate, and goes to C by value inside a `Schedule`, so that no ghost can say that it is a tree.
 #![tactic(auto)]
 
 ghost use Rattle.std.specs.Prelude.{◌≡◌, ◌+◌, ◌*◌, ◌<◌, ◌≤◌, ◌^◌};
@@ -57,19 +60,19 @@ pub fn is_free(tree: &[u8; TREE_BYTES], k: u32, r: u32) -> bool
 }
 
 fn write_node(tree: &mut [u8; TREE_BYTES], n: usize, taken: bool)
-    requires { (n < 2 * list_blocks) × Sized tree.old }
+    requires { n < 2 * list_blocks }
     ensures { Writes n taken tree.old tree.new }
 {
     let at = n >> 3;
     let bit = 1u8 << (n & 7);
     // no branch: the compiler then sees through write_below that no pointer to the tree is kept, and copies a schedule less often
-    let wanted = (taken as u8) << (n & 7);
+    let wanted = u8::from(taken) << (n & 7);
     tree[at] = (tree[at] & !bit) | wanted;
 }
 
 // Marking a node reaches every node beneath it, `left` levels down to the leaves.
 fn write_below(tree: &mut [u8; TREE_BYTES], n: usize, left: u32, taken: bool)
-    requires { ((n + 1) * 2 ^ left ≤ 2 * list_blocks) × Sized tree.old }
+    requires { (n + 1) * 2 ^ left ≤ 2 * list_blocks }
     ensures { WritesBelow left n taken tree.old tree.new }
 {
     write_node(tree, n, taken);
@@ -81,7 +84,7 @@ fn write_below(tree: &mut [u8; TREE_BYTES], n: usize, left: u32, taken: bool)
 
 // Node n becomes the OR of its two children, and whether that changed it.
 fn join(tree: &mut [u8; TREE_BYTES], n: usize) -> bool
-    requires { (0 < n) × (n < list_blocks) × Sized tree.old }
+    requires { (0 < n) × (n < list_blocks) }
     ensures { Joins n tree.old tree.new result }
 {
     let either = is_set(tree, 2 * n) || is_set(tree, 2 * n + 1);
@@ -94,12 +97,12 @@ fn join(tree: &mut [u8; TREE_BYTES], n: usize) -> bool
 
 // Each ancestor of n becomes the OR of its two children, from below; one that stays as it was leaves all above it as they were.
 fn join_above(tree: &mut [u8; TREE_BYTES], n: usize)
-    requires { (0 < n) × (n < 2 * list_blocks) × Sized tree.old × MissingOver n tree.old }
+    requires { (0 < n) × (n < 2 * list_blocks) × MissingOver n tree.old }
     ensures { JoinsAbove n tree.old tree.new }
 {
     let mut v = n;
     while 1 < v {
-        v = v >> 1;
+        v >>= 1;
         if !join(tree, v) {
             return;
         }

@@ -12,14 +12,24 @@ use Rattle.answer.proofs.put_message.Goals as goal
 pub returns-in-Default : goal.returns-in-Default
 unfolding words_of spaced
 returns-in-Default c =
-    row_words (text "default") [] (subrate_values c.in-Default.v) _ c.args.message (Default c.in-Default.v) c.in-Default.is refl c.subrate_values.ensures (within_all c.put_word-a.ensures) c.put_row.ensures (omega arith)
+    let v = c.in-Default.v in
+    row_words (text "default") [] (subrate_values v) _ c.args.message (Default v) c.in-Default.is
+    refl c.subrate_values.ensures (within_all c.put_word-a.ensures) c.put_row.ensures (omega arith)
 
 pub returns-in-Request : goal.returns-in-Request
 unfolding words_of spaced
 returns-in-Request c =
-    row_words (text "request") (c.in-Request.handle ∷ []) (subrate_values c.in-Request.v) _ c.args.message (Request c.in-Request.handle c.in-Request.v) c.in-Request.is refl c.subrate_values-in-Request.ensures c.put_count-a.ensures c.put_row-in-Request.ensures (omega arith)
+    let h = c.in-Request.handle in
+    let v = c.in-Request.v in
+    let p = rw c.from.ensures at c.put_count-a.ensures in
+    row_words (text "request") (h ∷ []) (subrate_values v) _ c.args.message (Request h v)
+    c.in-Request.is refl c.subrate_values-in-Request.ensures p c.put_row-in-Request.ensures
+    (omega arith)
 
 pub returns-in-Change : goal.returns-in-Change
 unfolding words_of spaced
 returns-in-Change c =
-    row_words (text "change") (c.in-Change.e.status ∷ []) (change_values c.in-Change.e) _ c.args.message (Change c.in-Change.e) c.in-Change.is refl c.change_values.ensures c.put_count-a-in-Change.ensures c.put_row-in-Change.ensures (omega arith)
+    let e = c.in-Change.e in
+    let p = rw c.from-in-Change.ensures at c.put_count-a-in-Change.ensures in
+    row_words (text "change") (e.status ∷ []) (change_values e) _ c.args.message (Change e)
+    c.in-Change.is refl c.change_values.ensures p c.put_row-in-Change.ensures (omega arith)

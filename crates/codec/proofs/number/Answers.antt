@@ -1,38 +1,56 @@
-use mathlib.Core.Path.{◌≡◌}
-use Prim.Native.Nat.{◌+◌, ◌-◌}
-use native.Mathlib.Omega.{arith}
-use Rattle.rules.specs.Bytes.{little_number}
-use Rattle.codec.proofs.Stores.{number_turn, number_room}
+use Rattle.std.proofs.Common.{◌≡◌, ◌+◌, ◌-◌, ◌*◌, ◌^◌, ◌<◌, arith, sym, ap, ◌∙◌, List, [], ℕ, length, take, drop}
+use Rattle.std.proofs.lemmas.List.{length_push, nil_from_length}
+use Rattle.codec.proofs.Stores.{above, above_none, above_last, number_turn, number_room}
+use lib.ListN.{length-drop}
+use lib.Seq.{length-take-le}
 use Rattle.codec.proofs.number.Goals as goal
+use Rattle.codec.proofs.number.Goals.{In-Some}
 
-pub loop-i-init : goal.loop-i-init
-unfolding little_number
-loop-i-init c =
-    let e : c.args.width - c.args.width ≡ 0 = omega arith in
-    (omega arith, rw e (omega arith), rw e)
+-- one byte less is left
+one_less : (c : In-Some) → length c.loop-byte.byte-iterator.iter.rest.now ≡ length c.next.new.self.iter.rest.now + 1
+one_less c = ap length c.in-Some.ensures.steps ∙ length_push _ _
+
+room : (c : In-Some) → c.loop-byte.n < 256 ^ 3
+room c = let l = c.loop-byte in number_room l.n _ (omega (arith, one_less c)) l.invariant.small
+
+pub loop-byte-init : goal.loop-byte-init
+loop-byte-init c =
+    let a = c.args in
+    let bytes = take a.width (drop a.at a.bytes.now) in
+    let w : a.at + a.width - a.at ≡ a.width = omega arith in
+    let e : c.into_iter-byte-iterator.result.iter.rest.now ≡ bytes =
+    ap (λ r. r.iter.rest.now) c.into_iter-byte-iterator.ensures.into_iter_gives ∙ ap (λ i. i.rest.now) c.rev-byte-items.ensures.source ∙ (rw w at c.iter.ensures.rest) in
+    let n : length c.into_iter-byte-iterator.result.iter.rest.now ≡ a.width =
+    ap (λ (l : List ℕ). length l) e ∙ length-take-le a.width (drop a.at a.bytes.now) (omega (arith, length-drop a.at a.bytes.now)) in
+    let z : a.width - length c.into_iter-byte-iterator.result.iter.rest.now ≡ 0 = omega arith in
+    record {
+      says = ap (λ (l : List ℕ). above l 0) e ∙ above_none bytes;
+      few = omega arith;
+      small = rw z (omega arith);
+    }
 
 pub overflow_mul-n : goal.overflow_mul-n
-overflow_mul-n c =
-    let l = c.loop-i in
-    omega (arith, number_room c.args.width l.n l.i c.requires.0 (omega arith) l.invariant.1)
+overflow_mul-n c = let r = room (goal.at.overflow_mul-n c).In-Some in omega arith
 
 pub overflow_add-n : goal.overflow_add-n
-overflow_add-n c =
-    let l = c.loop-i in
-    omega (arith, number_room c.args.width l.n l.i c.requires.0 (omega arith) l.invariant.1, c.wide.ensures, c.type_inv.bytes (c.args.at + (l.i - 1)))
+overflow_add-n c = let r = room (goal.at.overflow_add-n c).In-Some in omega (arith, c.from.ensures)
 
-pub loop-i-preserved : goal.loop-i-preserved
-loop-i-preserved c =
-    let l = c.loop-i in
-    let t = number_turn c.args.bytes.now c.args.at c.args.width l.n l.i c.wide.result (omega arith) (omega arith) c.requires.1 l.invariant.1 l.invariant.2
-    (omega (arith, c.wide.ensures, c.type_inv.bytes (c.args.at + (l.i - 1)))) c.wide.ensures in
-    (omega arith, t.0, t.1)
+pub loop-byte-preserved : goal.loop-byte-preserved
+loop-byte-preserved c =
+    let l = c.loop-byte in
+    let left = c.next.new.self.iter.rest.now in
+    let s = (goal.at.loop-byte-preserved c).In-Some in
+    let k : c.args.width - length left ≡ c.args.width - length l.byte-iterator.iter.rest.now + 1 = omega (arith, one_less s, l.invariant.few) in
+    record {
+      says =
+          ap (λ (b : ℕ). above left (l.n * 256 + b)) c.from.ensures ∙ sym (above_last left c.in-Some.field-0.now l.n)
+          ∙ ap (λ (x : List ℕ). above x l.n) (sym c.in-Some.ensures.steps) ∙ l.invariant.says;
+      few = omega (arith, one_less s, l.invariant.few);
+      small = rw k (number_turn l.n c.from.result _ l.invariant.small (omega (arith, c.from.ensures)));
+    }
 
 pub returns : goal.returns
 returns c =
-    let l = c.loop-i in
-    let a = c.args in
-    let e : l.i ≡ 0 = omega arith in
-    let s : a.width - 0 ≡ a.width = omega arith in
-    let t : a.at + 0 ≡ a.at = omega arith in
-    rw (e, s, t) at l.invariant.2
+    let l = c.loop-byte in
+    let e : l.byte-iterator.iter.rest.now ≡ [] = nil_from_length _ c.in-None.ensures.steps.0 in
+    rw e at l.invariant.says

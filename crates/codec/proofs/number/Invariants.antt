@@ -1,12 +1,14 @@
-use mathlib.Core.Path.{◌≡◌}
-use Prim.Native.Nat.{◌+◌, ◌-◌, ◌^◌, ◌<◌, ◌≤◌}
-use lib.ListN.{take, drop}
+use Rattle.std.proofs.Common.{◌≡◌, ◌-◌, ◌^◌, ◌<◌, ◌≤◌, length, take, drop}
 use Rattle.rules.specs.Bytes.{little_number}
+use Rattle.codec.proofs.Stores.{above}
 use Rattle.codec.proofs.number.Given as goal
 
--- `codec::number` meets its contract. The invariant: the bytes from i on have been read, and say a number that fits in as many.
-abbrev pub invariant-loop-i : goal.invariant-loop-i
-invariant-loop-i l = (l.i ≤ l.width) × (l.n < 256 ^ (l.width - l.i)) × (l.n ≡ little_number (take (l.width - l.i) (drop (l.at + l.i) l.bytes)))
-
-abbrev pub decreases-loop-i : goal.decreases-loop-i
-decreases-loop-i l = l.i
+-- The bytes that are left, and above them the number read so far, say the number; it fits in as many bytes as were read.
+abbrev pub invariant-loop-byte : goal.invariant-loop-byte
+invariant-loop-byte l =
+    let left = l.byte-iterator.iter.rest.now in
+    record {
+      says : above left l.n ≡ little_number (take l.width (drop l.at l.bytes));
+      few : length left ≤ l.width;
+      small : l.n < 256 ^ (l.width - length left);
+    }

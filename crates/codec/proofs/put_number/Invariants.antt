@@ -1,13 +1,11 @@
-use mathlib.Core.Path.{◌≡◌}
-use Prim.Native.Nat.{◌-◌, ◌/◌, ◌^◌, ◌≤◌}
-use lib.ListN.{length}
-use lib.Seq.{sets}
+use Rattle.std.proofs.Common.{◌≡◌, ◌/◌, ◌^◌, length, take}
 use Rattle.rules.specs.Bytes.{little}
 use Rattle.codec.proofs.put_number.Given as goal
 
--- `codec::put_number` meets its contract. The invariant: the first i bytes are written, and the rest of the number is left.
-abbrev pub invariant-loop-i : goal.invariant-loop-i
-invariant-loop-i l = (l.i ≤ l.width) × (l.buffer ≡ sets l.initial.buffer l.at (little l.i l.n)) × (l.rest ≡ l.n / 256 ^ l.i) × (length l.buffer ≡ length l.initial.buffer)
-
-abbrev pub decreases-loop-i : goal.decreases-loop-i
-decreases-loop-i l = l.width - l.i
+-- The first bytes are written, and the rest of the number is left.
+abbrev pub invariant-loop-byte : goal.invariant-loop-byte
+invariant-loop-byte l = record {
+  written : take l.byte-index l.byte-items ≡ little l.byte-index l.n;
+  left : l.rest ≡ l.n / 256 ^ l.byte-index;
+  sized : length l.byte-items ≡ l.width;
+}

@@ -1,49 +1,62 @@
-use mathlib.Core.Path.{subst}
-use native.Mathlib.Omega.{arith}
-use Rattle.hexadecimal.specs.Promises.{IsNibble}
-use Rattle.hexadecimal.proofs.HexReading.{read_none, wrong_first, wrong_short, wrong_second, read_more, wrong_none, read_all}
+use Rattle.std.proofs.Common.{◌≡◌, ◌+◌, ◌*◌, ◌/◌, ◌<◌, ◌≤◌, ◌-◌, arith, refl, sym, ap, ◌∙◌, length, take, drop, List, [], ℕ}
+use lib.ListN.{get_or, length-drop}
+use lib.Seq.{take_all}
+use native.Mathlib.Nat.{add-zero}
+use borrow.Author.Tests.{eqb-true, eq-eqb}
+use mathlib.Core.Bool.{false≢true}
+use Rattle.std.specs.Simd.{first_chunks}
+use Rattle.hexadecimal.proofs.HexReading.{wrong_size, digit_at, read_none, wrong_first, wrong_second, read_more}
 use Rattle.hexadecimal.proofs.read_hex.Goals as goal
+use Rattle.hexadecimal.proofs.read_hex.Goals.{In-loop-i, then-is_empty-via-then-is_empty, then-is_empty-via-else-is_empty+then-not-is_empty}
 
-pub loop-next-init : goal.loop-next-init
-loop-next-init c =
-    let a = c.args in
-    read_none a.line.now a.bytes.now a.at c.requires.0
+-- what is cut into pairs
+whole : (line : List ℕ) (start : ℕ) → start ≤ length line → take (length line - start) (drop start line) ≡ drop start line
+whole line start h = take_all _ _ (omega (arith, length-drop start line))
 
-pub returns-in_default : goal.returns-in_default
-returns-in_default c = wrong_first c.loop-next.invariant (omega arith) (subst (IsNibble _) c.in_default.is c.nibble_of-first.ensures)
+-- as many pairs as the digits have room for
+room : (c : In-loop-i) → c.args.at + 2 * c.loop-i.i + 1 < length c.args.line.now
+room c = omega (arith, c.as_chunks.ensures.front_len, ap (λ (x : List ℕ). length x) (whole c.args.line.now c.args.at c.requires.0), length-drop c.args.at c.args.line.now)
 
-pub returns-then-line-next-lt2 : goal.returns-then-line-next-lt2
-returns-then-line-next-lt2 c = wrong_short c.loop-next.invariant (omega arith) (omega arith)
+-- a digit of the pair at hand
+digit : (c : In-loop-i) (j next : ℕ) → j < 2 → next ≡ c.args.at + 2 * c.loop-i.i + j
+    → get_or (get_or c.as_chunks.result.0.now c.loop-i.i []) j 0 ≡ get_or c.args.line.now next 0
+digit c j next h e =
+    let w = whole c.args.line.now c.args.at c.requires.0 in
+    ap (λ p. get_or (get_or p c.loop-i.i []) j 0) (c.as_chunks.ensures.front ∙ ap (λ (x : List ℕ). first_chunks 2 (length x / 2) x) w)
+    ∙ digit_at c.args.line.now c.args.at _ c.loop-i.i j next (omega (arith, room c, length-drop c.args.at c.args.line.now)) h e
 
-pub returns-in_default-second : goal.returns-in_default-second
-returns-in_default-second c = wrong_second c.loop-next.invariant (omega arith) (subst (IsNibble _) c.in_default-second.is c.nibble_of-second.ensures)
+pub returns-then-is_empty : goal.returns-then-is_empty
+returns-then-is_empty c =
+    let w = ap (λ (x : List ℕ). length x) (whole c.args.line.now c.args.at c.requires.0) in
+    wrong_size c.args.line.now c.args.at (λ n h e.
+    elim c.then-is_empty.branch [
+      | then-is_empty-via-then-is_empty b ↦ omega (arith, w, c.as_chunks.ensures.front_len, eqb-true _ 0 (sym b.if-is_empty.ensures))
+      | then-is_empty-via-else-is_empty+then-not-is_empty b ↦
+          false≢true (b.if-not-is_empty.ensures ∙ eq-eqb _ 0 (omega (arith, w, c.as_chunks.ensures.back_len)))
+    ])
 
-pub overflow_mul-bytes : goal.overflow_mul-bytes
-overflow_mul-bytes c =
-    let h = subst (IsNibble _) c.in-Is.is c.nibble_of-first.ensures in
-    let w = subst (IsNibble _) c.in-Is-second.is c.nibble_of-second.ensures in
-    omega (arith, h.0)
+pub loop-i-init : goal.loop-i-init
+loop-i-init c = rw add-zero (read_none c.args.line.now c.args.bytes.now c.args.at c.requires.0)
 
-pub overflow_add-bytes : goal.overflow_add-bytes
-overflow_add-bytes c =
-    let h = subst (IsNibble _) c.in-Is.is c.nibble_of-first.ensures in
-    let w = subst (IsNibble _) c.in-Is-second.is c.nibble_of-second.ensures in
-    omega (arith, h.0, w.0)
+pub returns-in_err-nibble_of : goal.returns-in_err-nibble_of
+returns-in_err-nibble_of c =
+    let s = (goal.at.returns-in_err-nibble_of c).In-loop-i in
+    rw c.from_residual.ensures
+    (wrong_first c.loop-i.invariant (omega (arith, room s)) (λ d h e. c.in_err-nibble_of.ensures d h (digit s 0 _ (omega arith) (omega arith) ∙ e)))
 
-pub bounds-bytes-n : goal.bounds-bytes-n
-bounds-bytes-n c = omega (arith, c.loop-next.invariant.at_next, c.loop-next.invariant.sized, c.loop-next.invariant.here, c.requires.1, c.loop-next-test.true)
+pub returns-in_err-bytes : goal.returns-in_err-bytes
+returns-in_err-bytes c =
+    let s = (goal.at.returns-in_err-bytes c).In-loop-i in
+    rw c.from_residual-in_err-bytes.ensures
+    (wrong_second c.loop-i.invariant (omega (arith, room s)) (λ d h e. c.in_err-bytes.ensures d h (digit s 1 _ (omega arith) refl ∙ e)))
 
-pub overflow_add-n : goal.overflow_add-n
-overflow_add-n c = omega (arith, c.loop-next.invariant.at_next, c.loop-next.invariant.sized, c.loop-next.invariant.here, c.requires.1, c.loop-next-test.true)
-
-pub loop-next-preserved : goal.loop-next-preserved
-loop-next-preserved c =
-    let h = subst (IsNibble _) c.in-Is.is c.nibble_of-first.ensures in
-    let w = subst (IsNibble _) c.in-Is-second.is c.nibble_of-second.ensures in
-    read_more c.loop-next.invariant (omega arith) (omega arith) (omega (arith, c.loop-next.invariant.at_next, c.loop-next.invariant.sized, c.loop-next.invariant.here, c.requires.1, c.loop-next-test.true)) c.in-Is.high c.in-Is-second.low h.0 w.0 h.1 w.1
-
-pub returns-then-n-eq0 : goal.returns-then-n-eq0
-returns-then-n-eq0 c = wrong_none c.loop-next.invariant (omega arith) c.if-n-eq0.true
-
-pub returns : goal.returns
-returns c = read_all c.loop-next.invariant (omega arith) (omega arith)
+pub loop-i-preserved : goal.loop-i-preserved
+loop-i-preserved c =
+    let s = (goal.at.loop-i-preserved c).In-loop-i in
+    let i = c.loop-i.i in
+    let high = c.in_ok-nibble_of.ensures in
+    let low = c.in_ok-bytes.ensures in
+    let e : c.args.at + 2 * (i + 1) ≡ c.args.at + 2 * i + 2 = omega arith in
+    rw e
+    (read_more c.loop-i.invariant (omega (arith, room s)) (room s) (omega (arith, room s, c.loop-i.invariant.sized)) c.in_ok-nibble_of.field-0 c.in_ok-bytes.field-0 high.0 low.0
+    (sym (digit s 0 _ (omega arith) (omega arith)) ∙ high.1) (sym (digit s 1 _ (omega arith) refl) ∙ low.1))

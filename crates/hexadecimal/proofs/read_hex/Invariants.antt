@@ -1,11 +1,7 @@
-use Prim.Native.Nat.{◌-◌}
-use lib.ListN.{length}
+use Rattle.std.proofs.Common.{◌+◌, ◌*◌, length}
 use Rattle.hexadecimal.proofs.HexReading.{Read}
 use Rattle.hexadecimal.proofs.read_hex.Given as goal
 
--- `hexadecimal::read_hex` meets its contract. The invariant: the digits before next are read.
-abbrev pub invariant-loop-next : goal.invariant-loop-next
-invariant-loop-next l = Read l.line l.at (length l.initial.bytes) l.bytes l.next l.n
-
-abbrev pub decreases-loop-next : goal.decreases-loop-next
-decreases-loop-next l = length l.line - l.next
+-- The pairs before the one at i are read.
+abbrev pub invariant-loop-i : goal.invariant-loop-i
+invariant-loop-i l = Read l.line l.at (length l.initial.bytes) l.bytes (l.at + 2 * l.i) l.i

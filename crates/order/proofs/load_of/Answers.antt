@@ -1,20 +1,13 @@
-use mathlib.Core.Path.{subst}
-use mathlib.Core.List.{[]}
-use native.Mathlib.Omega.{arith}
-use Rattle.hexadecimal.specs.Promises.{ReadsHex}
+use Rattle.std.proofs.Common.{arith, []}
 use Rattle.order.proofs.Asked.{load_long, asks_load, asks_no_load}
 use Rattle.order.proofs.load_of.Goals as goal
 
--- `order::load_of` meets its contract: bytes in hexadecimal, or anything else.
-pub read_hex-read-requires : goal.read_hex-read-requires
-read_hex-read-requires c = (load_long c.args.line.now c.requires.0 [], omega (arith, c.requires.1))
+pub read_hex-requires : goal.read_hex-requires
+read_hex-requires c = (load_long c.args.line.now c.requires.0 [], omega (arith, c.requires.1))
 
-pub returns-in_default : goal.returns-in_default
-returns-in_default c =
-    let x = c.read_hex-read in
-    asks_no_load c.args.line.now c.requires.0 x.new.bytes (subst (ReadsHex _ x.new.bytes) c.in_default.is x.ensures)
+pub returns-in_err-count : goal.returns-in_err-count
+returns-in_err-count c =
+    rw c.from_residual.ensures (asks_no_load c.args.line.now c.requires.0 c.read_hex.new.bytes c.in_err-count.ensures)
 
 pub returns : goal.returns
-returns c =
-    let x = c.read_hex-read in
-    asks_load c.args.line.now c.requires.0 x.new.bytes c.in-Bytes.n (subst (ReadsHex _ x.new.bytes) c.in-Bytes.is x.ensures)
+returns c = asks_load c.args.line.now c.requires.0 c.read_hex.new.bytes c.in_ok-count.count c.in_ok-count.ensures

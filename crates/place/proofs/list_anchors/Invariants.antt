@@ -1,10 +1,7 @@
-use Prim.Native.Nat.{◌-◌, ◌*◌, ◌≤◌}
+use Prim.Native.Nat.{◌*◌}
 use Rattle.place.proofs.SearchLaws.{ListedTo}
 use Rattle.place.proofs.list_anchors.Given as goal
 
 -- `place::list_anchors` meets its contract. The invariant: the anchors of the first 2p nodes have been listed.
 abbrev pub invariant-loop-p : goal.invariant-loop-p
-invariant-loop-p l = (l.p ≤ l.highest) × ListedTo l.k (2 * l.p) l.anchors
-
-abbrev pub decreases-loop-p : goal.decreases-loop-p
-decreases-loop-p l = l.highest - l.p
+invariant-loop-p l = ListedTo l.k (2 * l.p) l.anchors

@@ -19,7 +19,7 @@ returns-then-is_free c =
     (sym (c.is_free.ensures (taken c.args.s.connections) (good_tree c.args.s c.requires)) ∙ c.if-is_free.true))
 
 pub loop-h-init : goal.loop-h-init
-loop-h-init c = (search rules, λ j l. absurd (omega arith))
+loop-h-init c j l = absurd (omega arith)
 
 pub owns-requires : goal.owns-requires
 owns-requires c = (good_sound c.args.s c.requires).numbers c.loop-h.h
@@ -28,21 +28,19 @@ pub returns-then-owns : goal.returns-then-owns
 returns-then-owns c =
     let l = c.loop-h in
     let a = c.args in
-    sym (owner_found a.s a.block l.h (omega arith) (sym c.owns.ensures ∙ c.if-owns.true) l.invariant.1)
+    sym (owner_found a.s a.block l.h (omega arith) (sym c.owns.ensures ∙ c.if-owns.true) l.invariant)
 
 pub loop-h-preserved : goal.loop-h-preserved
 loop-h-preserved c =
     let l = c.loop-h in
-    let a = c.args in (
-      omega arith,
-      λ j m.
-          by_cases (ℕ_discrete j l.h)
-          (λ q. ap (λ (x : ℕ). owns (connection a.s x) a.block) q ∙ sym c.owns.ensures ∙ c.if-owns.false)
-          (λ q. l.invariant.1 j (omega arith)),
-    )
+    let a = c.args in
+    λ j m.
+    by_cases (ℕ_discrete j l.h)
+    (λ q. ap (λ (x : ℕ). owns (connection a.s x) a.block) q ∙ sym c.owns.ensures ∙ c.if-owns.false)
+    (λ q. l.invariant j (omega arith))
 
 pub returns : goal.returns
 returns c =
     let l = c.loop-h in
     let a = c.args in
-    sym (owner_none a.s a.block (λ j m. l.invariant.1 j (omega arith)))
+    sym (owner_none a.s a.block (λ j m. l.invariant j (omega arith)))

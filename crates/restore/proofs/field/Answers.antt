@@ -1,7 +1,8 @@
-use native.Mathlib.Omega.{arith}
-use Rattle.restore.proofs.Records.{field_read}
+use Rattle.basics.proofs.BytesLaws.{number_at_lt}
 use Rattle.restore.proofs.field.Goals as goal
 
 pub returns : goal.returns
 returns c =
-    field_read c.args.bytes.now c.args.at c.args.start c.args.width c.number.result c.requires.1 c.requires.2 (λ i. omega (arith, c.type_inv.bytes i)) c.number.ensures
+    let a = c.args in
+    let small = number_at_lt a.payload.now a.start a.width (λ i. (c.type_inv.payload i).fits) in
+    (c.number.ensures, rw c.number.ensures small)

@@ -1,30 +1,9 @@
-use borrow.Author.Rules.{rules}
-use mathlib.Core.Path.{◌≡◌, ◌∙◌}
+use mathlib.Core.Path.{◌∙◌}
 use Prim.Native.Nat.{◌<◌, ◌^◌}
 use native.Mathlib.Omega.{arith}
-use Rattle.blocks.proofs.RunLaws.{tree_run_none}
-use Rattle.run.proofs.Runs.{still_tree, one_taken, one_given}
+use Rattle.run.proofs.Runs.{one_taken, one_given}
 use Rattle.run.proofs.set_run.Goals as goal
 use Rattle.run.proofs.set_run.Goals.{then-taken, else-taken}
-
-pub loop-j-init : goal.loop-j-init
-loop-j-init c = (search rules, search rules, λ f e. e ∙ tree_run_none c.args.k c.args.anchor c.args.from f c.args.taken)
-
-pub take_class-requires : goal.take_class-requires
-take_class-requires c =
-    let l = c.loop-j in (
-      c.requires.0,
-      c.class_at-r.ensures.below,
-      still_tree c.args.k c.args.anchor c.args.from l.j c.args.taken c.args.tree.now l.tree c.requires.4 l.invariant.2,
-    )
-
-pub give_back-requires : goal.give_back-requires
-give_back-requires c =
-    let l = c.loop-j in (
-      c.requires.0,
-      c.class_at-r.ensures.below,
-      still_tree c.args.k c.args.anchor c.args.from l.j c.args.taken c.args.tree.now l.tree c.requires.4 l.invariant.2,
-    )
 
 pub loop-j-preserved : goal.loop-j-preserved
 loop-j-preserved c =
@@ -47,10 +26,3 @@ loop-j-preserved c =
             l.invariant.0 room r.ensures.is (rw w.if-taken.false at l.invariant.2) w.give_back.ensures f e)
       ],
     )
-
-pub returns : goal.returns
-returns c f e =
-    let l = c.loop-j in
-    let a = c.args in
-    let q : l.j ≡ a.to = omega arith in
-    rw q at (l.invariant.2 f e)

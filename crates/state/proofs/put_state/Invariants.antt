@@ -1,4 +1,4 @@
-use Prim.Native.Nat.{◌-◌, ◌*◌, ◌≤◌}
+use Prim.Native.Nat.{◌*◌, ◌≤◌}
 use lib.ListN.{take}
 use Rattle.text.specs.Promises.{Puts}
 use Rattle.state.specs.State.{state_lines}
@@ -7,7 +7,5 @@ use Rattle.state.proofs.put_state.Given as goal
 -- `state::put_state` meets its contract. The invariant: the lines of the handles below h are put.
 abbrev pub invariant-loop-h : goal.invariant-loop-h
 invariant-loop-h l =
-    (l.h ≤ 64) × Puts l.initial.out 0 (state_lines 0 (take l.h l.connections)) l.out l.next × (l.next ≤ 48 * l.h)
-
-abbrev pub decreases-loop-h : goal.decreases-loop-h
-decreases-loop-h l = 64 - l.h
+    Puts l.initial.out 0 (state_lines 0 (take l.h l.connections)) l.out l.next
+    × (l.next ≤ 48 * l.h)

@@ -1,28 +1,16 @@
 -- What is written at n, under 2n and under 2n + 1 is what lies under n.
 use mathlib.Core.Path.{◌∙◌}
 use native.Mathlib.Omega.{arith}
-use Rattle.tree.proofs.UnderLaws.{room, room_below, under_step, under_none}
+use Rattle.tree.proofs.UnderLaws.{room_below, under_step, under_none}
 use Rattle.tree.proofs.+write_below.Goals as goal
-
-pub write_node-requires : goal.write_node-requires
-write_node-requires t c = (room c.args.n c.args.left c.requires.0, c.requires.1)
-
-pub overflow_mul-n : goal.overflow_mul-n
-overflow_mul-n t c = omega (arith, room c.args.n c.args.left c.requires.0)
 
 pub write_below-requires : goal.write_below-requires
 write_below-requires t c =
-    (omega arith, ((room_below c.args.n c.args.left (omega arith) c.requires.0).0, c.write_node.ensures.sized))
-
-pub overflow_mul-n-then-left-gt0 : goal.overflow_mul-n-then-left-gt0
-overflow_mul-n-then-left-gt0 t c = omega (arith, room c.args.n c.args.left c.requires.0)
-
-pub overflow_add-n : goal.overflow_add-n
-overflow_add-n t c = omega (arith, room c.args.n c.args.left c.requires.0)
+    (omega arith, (room_below c.args.n c.args.left (omega arith) c.requires).0)
 
 pub write_below-requires-then-left-gt0 : goal.write_below-requires-then-left-gt0
 write_below-requires-then-left-gt0 t c =
-    (omega arith, ((room_below c.args.n c.args.left (omega arith) c.requires.0).1, c.write_below.ensures.sized))
+    (omega arith, (room_below c.args.n c.args.left (omega arith) c.requires).1)
 
 pub returns-then-left-gt0 : goal.returns-then-left-gt0
 returns-then-left-gt0 t c =

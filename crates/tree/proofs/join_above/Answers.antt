@@ -1,16 +1,8 @@
-use borrow.Author.Rules.{rules}
-use mathlib.Core.Path.{refl}
 use Prim.Native.Nat.{◌<◌, ◌/◌}
 use borrow.Author.Tests.{ne_eqb}
 use native.Mathlib.Omega.{arith}
 use Rattle.tree.proofs.JoinLaws.{join_missing, join_stays, join_keeps}
 use Rattle.tree.proofs.join_above.Goals as goal
-
-pub loop-v-init : goal.loop-v-init
-loop-v-init c = (search rules, search rules, c.requires.2, c.requires.3, record { others = λ m h e. refl; zeroth = refl; above = λ m h e. e })
-
-pub join-requires : goal.join-requires
-join-requires c = (omega arith, omega arith, c.loop-v.invariant.2)
 
 pub returns-then-not-join : goal.returns-then-not-join
 returns-then-not-join c =

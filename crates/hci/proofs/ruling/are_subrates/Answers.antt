@@ -1,14 +1,18 @@
 use mathlib.Core.Path.{◌∙◌}
-use native.Mathlib.Omega.{arith}
-use Rattle.hci.proofs.Tests.{not_commanded, by_max}
+use Rattle.hci.proofs.Tests.{within, outside, not_commanded, by_max}
 use Rattle.hci.proofs.ruling.are_subrates.Goals as goal
 
--- `hci::ruling::are_subrates` meets its contract.
-pub returns-then-v-lt-LEAST_FACTOR : goal.returns-then-v-lt-LEAST_FACTOR
-returns-then-v-lt-LEAST_FACTOR c = not_commanded c.args.v (λ r. omega arith)
+pub returns-then-contains : goal.returns-then-contains
+returns-then-contains c =
+    let r = c.new.ensures in
+    let is = rw (r.start, r.end, r.exhausted) at c.contains.ensures.value in
+    let range = within 1 c.args.v.max c.args.v.min is c.if-contains.true in
+    c.is_subrating.ensures ∙ by_max c.args.v range.0 range.1
 
-pub returns-then-v : goal.returns-then-v
-returns-then-v c = not_commanded c.args.v (λ r. omega arith)
-
-pub returns : goal.returns
-returns c = c.is_subrating.ensures ∙ by_max _ (omega arith) (omega arith)
+pub returns-else-contains : goal.returns-else-contains
+returns-else-contains c =
+    let r = c.new.ensures in
+    let is = rw (r.start, r.end, r.exhausted) at c.contains.ensures.value in
+    let v = c.args.v in
+    c.if-contains.false
+    ∙ not_commanded v (λ w. outside 1 v.max v.min is c.if-contains.false w.min_from_1 w.in_order)

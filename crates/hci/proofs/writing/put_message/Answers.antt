@@ -1,25 +1,19 @@
-use mathlib.Core.Path.{sym, ap, ◌∙◌}
-use native.Mathlib.Omega.{arith}
-use lib.Seq.{sets}
-use Rattle.rules.specs.declared.Message.{Message}
-use Rattle.rules.specs.Messages.{message_bytes}
-use Rattle.messages.proofs.MessageLaws.{size_of, size_is}
+use Rattle.hci.proofs.Storing.{default_put, request_put, change_put}
 use Rattle.hci.proofs.writing.put_message.Goals as goal
 
-pub put_default-requires : goal.put_default-requires
-put_default-requires c = omega (arith, c.requires, size_is c.args.message ∙ ap size_of c.in-Default.is)
-
-pub put_request-requires : goal.put_request-requires
-put_request-requires c = omega (arith, c.requires, size_is c.args.message ∙ ap size_of c.in-Request.is)
-
-pub put_change-requires : goal.put_change-requires
-put_change-requires c = omega (arith, c.requires, size_is c.args.message ∙ ap size_of c.in-Change.is)
-
 pub returns-in-Default : goal.returns-in-Default
-returns-in-Default c = c.put_default.ensures ∙ ap (λ (m : Message). sets c.args.buffer.now 0 (message_bytes m)) (sym c.in-Default.is)
+returns-in-Default c =
+    default_put c.args.buffer.now c.in-Default.v c.in-Default.is c.from.ensures
+    c.put_number.ensures c.put_five.ensures
 
 pub returns-in-Request : goal.returns-in-Request
-returns-in-Request c = c.put_request.ensures ∙ ap (λ (m : Message). sets c.args.buffer.now 0 (message_bytes m)) (sym c.in-Request.is)
+returns-in-Request c =
+    request_put c.args.buffer.now c.in-Request.handle c.in-Request.v c.in-Request.is
+    c.from-in-Request.ensures c.from-in-Request-2.ensures c.put_number-in-Request.ensures
+    c.put_number-in-Request-2.ensures c.put_five-in-Request.ensures
 
 pub returns-in-Change : goal.returns-in-Change
-returns-in-Change c = c.put_change.ensures ∙ ap (λ (m : Message). sets c.args.buffer.now 0 (message_bytes m)) (sym c.in-Change.is)
+returns-in-Change c =
+    change_put c.args.buffer.now c.in-Change.e c.in-Change.is
+    c.from-in-Change.ensures c.from-in-Change-2.ensures c.put_number-in-Change.ensures
+    c.put_number-in-Change-2.ensures c.put_five-in-Change.ensures

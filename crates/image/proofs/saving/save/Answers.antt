@@ -1,13 +1,11 @@
-use mathlib.Core.Path.{refl, ap, ◌∙◌}
-use mathlib.Core.List.{List}
-use Prim.Native.Nat.{ℕ, ◌≤◌}
+use mathlib.Core.Path.{refl}
+use Prim.Native.Nat.{◌≤◌}
 use native.Mathlib.Omega.{arith}
-use lib.ListN.{length}
 use Rattle.rules.specs.Ownership.{handles}
 use Rattle.rules.specs.Image.{connection_piece}
 use Rattle.calls.proofs.EachLaws.{count_most, each_count}
 use Rattle.images.proofs.ImageLaws.{connections_length}
-use Rattle.image.proofs.Puts.{tree_for_long, too_short, image_saved}
+use Rattle.image.proofs.Puts.{too_short, image_saved}
 use Rattle.image.proofs.saving.save.Goals as goal
 use Rattle.image.proofs.saving.save.Goals.{After-live-n}
 
@@ -32,11 +30,11 @@ pub overflow_cast-n : goal.overflow_cast-n
 overflow_cast-n c = omega (arith, few (goal.at.overflow_cast-n c).After-live-n)
 
 pub put_connections-next-requires : goal.put_connections-next-requires
-put_connections-next-requires c = (c.requires.places, omega (arith, c.live-n.ensures, connections_length 0 c.args.s.connections))
+put_connections-next-requires c = omega (arith, c.live-n.ensures, connections_length 0 c.args.s.connections)
 
 pub put_tree-requires : goal.put_tree-requires
 put_tree-requires c =
-    (omega (arith, c.live-n.ensures, c.put_connections-next.ensures.ends, connections_length 0 c.args.s.connections, c.if-buffer-size.false, c.put_header.auto, c.put_number.auto, c.put_connections-next.auto), ap (λ (x : List ℕ). length x) c.requires.has_tree ∙ tree_for_long c.args.s.connections)
+    omega (arith, c.live-n.ensures, c.put_connections-next.ensures.ends, connections_length 0 c.args.s.connections, c.if-buffer-size.false, c.put_header.auto, c.put_number.auto, c.put_connections-next.auto)
 
 pub returns : goal.returns
 returns c =

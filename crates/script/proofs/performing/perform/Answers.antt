@@ -1,56 +1,61 @@
-use mathlib.Core.Path.{sym, ap}
+use borrow.Author.Rules.{rules}
+use mathlib.Core.Path.{refl, sym, ap}
 use native.Mathlib.Omega.{arith}
 use lib.ListN.{take}
 use lib.Seq.{length-take-le}
+use Rattle.rules.specs.Text.{text}
+use Rattle.rules.specs.Answers.{loaded}
+use Rattle.rules.specs.Words.{words_of}
 use Rattle.text.proofs.Putting.{within_as}
-use Rattle.script.specs.Performing.{saved_line, performed}
+use Rattle.answer.proofs.Words.{puts_converted}
 use Rattle.order.proofs.Asked.{asked, inside}
-use Rattle.script.proofs.Acting.{acts_command, acts_fresh, acts_image, acts_save, acts_load, acts_state, acts_bad}
+use Rattle.script.specs.Performing.{saved_line, performed}
+use Rattle.script.proofs.Acting.{acts_command, acts_fresh, acts_image, acts_save, acts_load}
+use Rattle.script.proofs.Acting.{acts_state, acts_bad}
 use Rattle.script.proofs.performing.perform.Goals as goal
 
-pub slice_bounds-put_saved-end : goal.slice_bounds-put_saved-end
-slice_bounds-put_saved-end c =
-    let w = inside c.order_of.ensures c.in-SaveInto.is in
-    omega (arith, w, c.requires.2)
+pub returns-in-Some-Command : goal.returns-in-Some-Command
+returns-in-Some-Command c =
+    let w = c.in-Some-Command in
+    acts_command w.command c.obey-done.result (asked w.ensures w.field-0-is) c.obey-done.ensures
+    c.put_reply-count.ensures
 
-pub slice_bounds-put_saved-end-in-SaveInto : goal.slice_bounds-put_saved-end-in-SaveInto
-slice_bounds-put_saved-end-in-SaveInto c =
-    let w = inside c.order_of.ensures c.in-SaveInto.is in
-    sym (length-take-le c.in-SaveInto.size c.order_of.new.bytes (omega (arith, w, c.requires.2)))
-
-pub put_saved-count-requires : goal.put_saved-count-requires
-put_saved-count-requires c =
-    let w = inside c.order_of.ensures c.in-SaveInto.is in
-    let t = length-take-le c.in-SaveInto.size c.order_of.new.bytes (omega (arith, w, c.requires.2)) in
-    (c.requires.0, c.requires.3, omega (arith, t, w))
-
-pub slice_bounds-load-end : goal.slice_bounds-load-end
-slice_bounds-load-end c = inside c.order_of.ensures c.in-Load.is
-
-pub slice_bounds-load-end-in-Load : goal.slice_bounds-load-end-in-Load
-slice_bounds-load-end-in-Load c = sym (length-take-le c.in-Load.n c.order_of.new.bytes (inside c.order_of.ensures c.in-Load.is))
-
-pub returns-in-Command : goal.returns-in-Command
-returns-in-Command c = acts_command c.in-Command.command c.obey-done.result (asked c.order_of.ensures c.in-Command.is) c.obey-done.ensures c.put_reply-count.ensures
-
-pub returns-in-Fresh : goal.returns-in-Fresh
+pub returns-in-Some-Fresh : goal.returns-in-Some-Fresh
 unfolding performed
-returns-in-Fresh c = acts_fresh c.fresh-schedule.result (asked c.order_of.ensures c.in-Fresh.is) c.fresh-schedule.ensures c.put_word-count.ensures
+returns-in-Some-Fresh c =
+    acts_fresh c.fresh-schedule.result (asked c.in-Some-Fresh.ensures c.in-Some-Fresh.field-0-is)
+    c.fresh-schedule.ensures c.put_word-count.ensures
 
-pub returns-in-Save : goal.returns-in-Save
-returns-in-Save c = acts_image (asked c.order_of.ensures c.in-Save.is) c.requires.0 c.put_image-count.ensures
+pub returns-in-Some-Save : goal.returns-in-Some-Save
+returns-in-Some-Save c =
+    acts_image (asked c.in-Some-Save.ensures c.in-Some-Save.field-0-is) c.requires.0 c.put_image-count.ensures
 
-pub returns-in-SaveInto : goal.returns-in-SaveInto
-returns-in-SaveInto c = acts_save c.in-SaveInto.size (asked c.order_of.ensures c.in-SaveInto.is) c.requires.0
-    (let w = inside c.order_of.ensures c.in-SaveInto.is in
-    let t = length-take-le c.in-SaveInto.size c.order_of.new.bytes (omega (arith, w, c.requires.2)) in
-    within_as (ap (saved_line c.args.s) t) c.put_saved-count.ensures)
+pub returns-in-Some-SaveInto : goal.returns-in-Some-SaveInto
+returns-in-Some-SaveInto c =
+    let w = c.in-Some-SaveInto in
+    let i = inside w.ensures w.field-0-is in
+    let t = length-take-le w.size c.order_of.new.bytes (omega (arith, i, c.requires.2)) in
+    acts_save w.size (asked w.ensures w.field-0-is) c.requires.0
+    (within_as (ap (saved_line c.args.s) t) c.put_saved-count.ensures)
 
-pub returns-in-Load : goal.returns-in-Load
-returns-in-Load c = acts_load (take c.in-Load.n c.order_of.new.bytes) c.load-done.result (asked c.order_of.ensures c.in-Load.is) c.load-done.ensures c.put_loading-a.ensures c.put_word-count-in-Load.ensures
+pub returns-in-Some-Load : goal.returns-in-Some-Load
+unfolding words_of
+returns-in-Some-Load c =
+    let w = c.in-Some-Load in
+    let d = c.load-done in
+    let p =
+    puts_converted loaded (text "loaded") (λ k. refl) d.result.answer c.map.result _
+    (λ x r q. search rules) c.map.ensures.cases c.put_counted-a.ensures
+    in
+    acts_load (take w.n c.order_of.new.bytes) d.result (asked w.ensures w.field-0-is) d.ensures p
+    c.put_word-count-in-Some-Load.ensures
 
-pub returns-in-State : goal.returns-in-State
-returns-in-State c = acts_state (asked c.order_of.ensures c.in-State.is) c.requires.0 c.put_state-a.ensures c.put_word-count-in-State.ensures
+pub returns-in-Some-State : goal.returns-in-Some-State
+returns-in-Some-State c =
+    acts_state (asked c.in-Some-State.ensures c.in-Some-State.field-0-is) c.requires.0 c.put_state-a.ensures
+    c.put_word-count-in-Some-State.ensures
 
-pub returns-in-Bad : goal.returns-in-Bad
-returns-in-Bad c = acts_bad (asked c.order_of.ensures c.in-Bad.is) c.requires.0 c.put_word-count-in-Bad.ensures
+pub returns-in-None : goal.returns-in-None
+returns-in-None c =
+    acts_bad (sym c.in-None.ensures.is) c.requires.0
+    c.put_word-count-in-None.ensures

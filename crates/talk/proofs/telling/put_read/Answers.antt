@@ -6,7 +6,8 @@ use Rattle.talk.proofs.telling.put_read.Goals as goal
 
 pub returns : goal.returns
 returns c =
+    let p = c.put_reading-a.ensures in
     record {
-      puts = puts_after (puts_as (ap words_of c.read_message-answer.ensures) c.put_reading-a.ensures.puts) c.put_word.ensures;
-      room = omega (arith, c.put_reading-a.ensures.room, c.put_word.ensures.ends);
+      puts = puts_after (puts_as (ap words_of c.read_message.ensures) p.puts) c.put_word.ensures;
+      room = omega (arith, p.room, c.put_word.ensures.ends);
     }

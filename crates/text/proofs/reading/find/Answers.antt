@@ -1,30 +1,21 @@
-use borrow.Author.Rules.{rules}
-use mathlib.Core.Path.{◌≡◌, refl, ap}
-use mathlib.Core.List.{List}
-use Prim.Native.Nat.{ℕ, suc, ◌+◌}
-use native.Mathlib.Omega.{arith}
-use lib.ListN.{length}
-use Rattle.texts.proofs.SplitLaws.{before_past, before_found, before_end}
+use Rattle.std.proofs.Common.{rules, tests, ◌≡◌, ◌+◌, ◌-◌, arith, ap, ◌∙◌, List, length, take, drop, ℕ}
+use lib.Dec.{eqb}
+use lib.ListN.{length-drop}
+use lib.Seq.{take_all}
+use Rattle.std.proofs.lemmas.Iterator.{YieldsList-from_slice}
+use Rattle.std.proofs.lemmas.Iterator.Search.{position_from_yields_List}
+use Rattle.std.specs.List.{position}
+use Rattle.std.specs.Option.{unwrap_or}
+use Rattle.rules.specs.Split.{before}
+use Rattle.text.proofs.Finding.{found}
 use Rattle.text.proofs.reading.find.Goals as goal
-
-pub loop-i-init : goal.loop-i-init
-loop-i-init c = (search rules, refl)
-
-pub returns-then-bytes-i : goal.returns-then-bytes-i
-returns-then-bytes-i c =
-    let l = c.loop-i in
-    let a = c.args in
-    omega (arith, l.invariant.1, ap (λ (x : List ℕ). length x) (before_found a.byte a.bytes.now l.i (omega arith) c.if-bytes-i.true))
-
-pub loop-i-preserved : goal.loop-i-preserved
-loop-i-preserved c =
-    let l = c.loop-i in
-    let a = c.args in
-    let e : l.i + 1 ≡ suc l.i = omega arith in
-    (omega arith, rw e (omega (arith, l.invariant.1, before_past a.byte a.bytes.now l.i (omega arith) c.if-bytes-i.false)))
 
 pub returns : goal.returns
 returns c =
-    let l = c.loop-i in
     let a = c.args in
-    omega (arith, l.invariant.1, ap (λ (x : List ℕ). length x) (before_end a.byte a.bytes.now l.i (omega arith)))
+    let part = take (length a.bytes.now - a.from) (drop a.from a.bytes.now) in
+    let p : c.position.result ≡ position (λ b. eqb b a.byte) part =
+    position_from_yields_List (λ b. eqb b a.byte) _ _ c.position.result c.position.ensures.ran (YieldsList-from_slice part c.iter.ensures.rest) (λ x b q k. search (rules, tests)) in
+    let whole : part ≡ drop a.from a.bytes.now = take_all _ _ (omega (arith, length-drop a.from a.bytes.now)) in
+    ap (λ n. a.from + n)
+    (c.unwrap_or.ensures ∙ ap (λ o. unwrap_or o (length part)) p ∙ found a.byte part ∙ ap (λ (l : List ℕ). length (before a.byte l)) whole)

@@ -1,13 +1,12 @@
-use mathlib.Core.Path.{◌≡◌}
-use Prim.Native.Nat.{◌-◌, ◌^◌, ◌<◌, ◌≤◌}
-use lib.ListN.{length, take}
+use Rattle.std.proofs.Common.{◌≡◌, ◌^◌, ◌<◌, take}
 use Rattle.rules.specs.Decimal.{value}
 use Rattle.text.proofs.Digits.{DigitsTo}
 use Rattle.text.proofs.reading.number.Given as goal
 
--- `text::number` meets its contract. The invariant: the first i bytes are digits, and value is what they say.
-abbrev pub invariant-loop-i : goal.invariant-loop-i
-invariant-loop-i l = (l.i ≤ length l.digits) × (l.value < 2 ^ 32) × (l.value ≡ value (take l.i l.digits)) × DigitsTo l.digits l.i
-
-abbrev pub decreases-loop-i : goal.decreases-loop-i
-decreases-loop-i l = length l.digits - l.i
+-- The bytes read are digits, and value is what they say.
+abbrev pub invariant-loop-byte : goal.invariant-loop-byte
+invariant-loop-byte l = record {
+  says : l.value ≡ value (take l.byte-index l.digits);
+  small : l.value < 2 ^ 32;
+  digits : DigitsTo l.digits l.byte-index;
+}

@@ -1,12 +1,6 @@
-use mathlib.Core.Path.{sym, ap, ◌∙◌}
-use Prim.Native.Nat.{◌+◌}
-use native.Mathlib.Omega.{arith}
-use Rattle.texts.specs.Row.{of_number}
-use Rattle.text.proofs.Rows.{found_within, so_far_none, so_far_all, so_far_wrong, so_far_full, so_far_no_number, so_far_more}
+use Rattle.std.proofs.Common.{arith, ◌+◌}
+use Rattle.text.proofs.Rows.{found_within, so_far_all, so_far_wrong, so_far_full, so_far_no_number, so_far_more}
 use Rattle.text.proofs.reading.read_row.Goals as goal
-
-pub loop-next-init : goal.loop-next-init
-loop-next-init c = so_far_none c.args.line.now c.args.at c.args.numbers.now c.requires
 
 pub returns-then-count-numbers : goal.returns-then-count-numbers
 returns-then-count-numbers c =
@@ -20,34 +14,16 @@ returns-then-line-next-ne32 c =
     let a = c.args in
     so_far_wrong a.line.now a.at a.numbers.now l.numbers l.next l.count l.invariant c.loop-next-test.true (λ ms g. c.if-line-next-ne32.true g.space)
 
-pub slice_bounds-number-count : goal.slice_bounds-number-count
-slice_bounds-number-count c = omega (arith, c.find-end.ensures)
-
-pub slice_bounds-number-start : goal.slice_bounds-number-start
-slice_bounds-number-start c = omega (arith, c.find-end.ensures)
-
 pub slice_bounds-number-end : goal.slice_bounds-number-end
-slice_bounds-number-end c =
-    let l = c.loop-next in
-    let a = c.args in
-    omega (arith, c.find-end.ensures, found_within 32 a.line.now (l.next + 1) (omega (arith, c.loop-next-test.true)))
+slice_bounds-number-end c = omega (arith, c.find-end.ensures, found_within 32 c.args.line.now (c.loop-next.next + 1) (omega arith))
 
-pub returns-in_default : goal.returns-in_default
-returns-in_default c =
+pub returns-in_err-numbers : goal.returns-in_err-numbers
+returns-in_err-numbers c =
     let l = c.loop-next in
     let a = c.args in
     let f = c.find-end in
-    so_far_no_number a.line.now a.at a.numbers.now l.numbers l.next l.count l.invariant c.loop-next-test.true f.result f.ensures
-    (sym (ap of_number c.in_default.is) ∙ c.number-read.ensures)
-
-pub bounds-numbers-count : goal.bounds-numbers-count
-bounds-numbers-count c = omega (arith, c.loop-next.invariant.within, c.if-count-numbers.false)
-
-pub overflow_add-count : goal.overflow_add-count
-overflow_add-count c = omega (arith, c.loop-next.invariant.within, c.if-count-numbers.false)
-
-pub loop-next-smaller : goal.loop-next-smaller
-loop-next-smaller c = omega (arith, c.find-end.ensures, c.loop-next-test.true)
+    rw c.from_residual.ensures
+    (so_far_no_number a.line.now a.at a.numbers.now l.numbers l.next l.count l.invariant c.loop-next-test.true f.result f.ensures c.in_err-numbers.ensures)
 
 pub loop-next-preserved : goal.loop-next-preserved
 loop-next-preserved c =
@@ -55,7 +31,7 @@ loop-next-preserved c =
     let a = c.args in
     let f = c.find-end in
     so_far_more a.line.now a.at a.numbers.now l.numbers l.next l.count l.invariant c.loop-next-test.true f.result f.ensures
-    c.in-Is.n c.if-line-next-ne32.false (omega (arith, l.invariant.within, c.if-count-numbers.false)) (sym (ap of_number c.in-Is.is) ∙ c.number-read.ensures)
+    c.in_ok-numbers.field-0 c.if-line-next-ne32.false (omega (arith, l.invariant.within)) c.in_ok-numbers.ensures
 
 pub returns : goal.returns
 returns c =

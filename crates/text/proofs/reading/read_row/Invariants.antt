@@ -1,9 +1,8 @@
-use Prim.Native.Nat.{◌-◌}
-use lib.ListN.{length}
+use Rattle.std.proofs.Common.{◌-◌, length}
 use Rattle.text.proofs.Rows.{SoFar}
 use Rattle.text.proofs.reading.read_row.Given as goal
 
--- `text::read_row` meets its contract. The invariant: the numbers before next are read.
+-- The numbers before next are read.
 abbrev pub invariant-loop-next : goal.invariant-loop-next
 invariant-loop-next l = SoFar l.line l.at l.initial.numbers l.numbers l.next l.count
 

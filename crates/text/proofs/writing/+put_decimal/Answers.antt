@@ -6,9 +6,6 @@ use Rattle.text.proofs.writing.+put_decimal.Goals as goal
 pub bounds-out-at : goal.bounds-out-at
 bounds-out-at t c = omega (arith, c.requires, digits_one c.args.n c.if-n-lt10.true)
 
-pub overflow_add-result : goal.overflow_add-result
-overflow_add-result t c = omega (arith, c.requires, digits_one c.args.n c.if-n-lt10.true)
-
 pub returns-then-n-lt10 : goal.returns-then-n-lt10
 returns-then-n-lt10 t c = puts_one c.args.out.now c.args.at c.args.n c.if-n-lt10.true
 

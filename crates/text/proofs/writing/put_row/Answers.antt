@@ -1,38 +1,32 @@
-use mathlib.Core.List.{[]}
-use mathlib.Core.Path.{◌≡◌}
-use Prim.Native.Nat.{◌<◌}
-use native.Mathlib.Omega.{arith}
+use Rattle.std.proofs.Common.{◌<◌, ◌≡◌, arith, [], length, slice_index, take}
 use native.Mathlib.Numerals.{add-one}
-use lib.ListN.{length, get_or, take}
 use lib.Seq.{take-suc, take_all}
 use Rattle.rules.specs.Words.{spaced}
 use Rattle.text.proofs.Putting.{puts_nothing, puts_length, number_room, within_spaced}
 use Rattle.text.proofs.writing.put_row.Goals as goal
 
-pub loop-i-init : goal.loop-i-init
+pub loop-n-init : goal.loop-n-init
 unfolding spaced
-loop-i-init c =
-    let a = c.args in
-    (omega arith, record { puts = puts_nothing a.out.now a.at; room = omega arith })
+loop-n-init c = record { puts = puts_nothing c.args.out.now c.args.at; room = omega arith }
 
 pub put_spaced-next-requires : goal.put_spaced-next-requires
 put_spaced-next-requires c =
-    let l = c.loop-i in
-    let n = get_or c.args.numbers.now l.i 0 in
-    omega (arith, c.requires, l.invariant.1.room, puts_length l.invariant.1.puts, number_room 9 n (omega (arith, c.type_inv.numbers l.i)), c.loop-i-test.true)
+    let p = c.loop-n.invariant in
+    let n = slice_index c.args.numbers.now c.loop-n.n-index in
+    omega (arith, p.room, puts_length p.puts, number_room 9 n (omega arith))
 
-pub loop-i-preserved : goal.loop-i-preserved
-loop-i-preserved c =
-    let l = c.loop-i in
-    let a = c.args in
-    let n = get_or a.numbers.now l.i 0 in
-    let h : l.i < length a.numbers.now = omega arith in
-    let p = within_spaced [] (take l.i a.numbers.now) 9 n (omega (arith, c.type_inv.numbers l.i)) l.invariant.1 c.put_spaced-next.ensures in
-    (omega arith, record { puts = rw (add-one l.i, take-suc a.numbers.now l.i 0 h) p.puts; room = omega (arith, p.room) })
+pub loop-n-preserved : goal.loop-n-preserved
+loop-n-preserved c =
+    let l = c.loop-n in
+    let i = l.n-index in
+    let ns = c.args.numbers.now in
+    let h : i < length ns = omega arith in
+    let p = within_spaced [] (take i ns) 9 (slice_index ns i) (omega (arith, c.type_inv.numbers i)) l.invariant c.put_spaced-next.ensures in
+    record { puts = rw (add-one i, take-suc ns i 0 h) p.puts; room = omega (arith, p.room) }
 
 pub returns : goal.returns
 returns c =
-    let l = c.loop-i in
-    let a = c.args in
-    let t : take l.i a.numbers.now ≡ a.numbers.now = take_all l.i a.numbers.now (omega arith) in
-    record { puts = rw t at l.invariant.1.puts; room = omega (arith, l.invariant.1.room) }
+    let l = c.loop-n in
+    let ns = c.args.numbers.now in
+    let t : take l.n-index ns ≡ ns = take_all l.n-index ns (omega arith) in
+    record { puts = rw t at l.invariant.puts; room = omega (arith, l.invariant.room) }

@@ -1,13 +1,8 @@
 use mathlib.Core.Path.{◌≡◌}
-use Prim.Native.Nat.{◌-◌, ◌≤◌}
 use lib.ListN.{length}
-use Rattle.rules.specs.Ownership.{handles}
 use Rattle.tidy.proofs.Moves.{first_movers}
 use Rattle.tidy.proofs.moving.count_moves.Given as goal
 
 -- `moving::count_moves` meets its contract. The invariant: the moves of the first h handles have been counted.
 abbrev pub invariant-loop-h : goal.invariant-loop-h
-invariant-loop-h l = (l.h ≤ handles) × (l.n ≡ length (first_movers l.old.connections l.new.connections l.h))
-
-abbrev pub decreases-loop-h : goal.decreases-loop-h
-decreases-loop-h l = handles - l.h
+invariant-loop-h l = l.n ≡ length (first_movers l.old.connections l.new.connections l.h)

@@ -13,46 +13,45 @@ use Rattle.tidy.proofs.moving.put_moves.Goals as goal
 use Rattle.tidy.proofs.moving.put_moves.Goals.{At-loop-h, else-has_moved, then-has_moved}
 
 -- what is written fits, so the list keeps its length
-room : (c : At-loop-h) → length (first_entries c.args.old.connections c.args.new.connections c.loop-h.h) ≤ length c.args.list.now
+room : (c : At-loop-h) → length (first_entries c.args.old.now.connections c.args.new.now.connections c.loop-h.h) ≤ length c.args.list.now
 room c =
-    omega (arith, first_fit c.args.old.connections c.args.new.connections c.loop-h.h c.loop-h.invariant.0, c.requires.2)
+    omega (arith, first_fit c.args.old.now.connections c.args.new.now.connections c.loop-h.h (omega arith), c.requires)
 
 kept : (c : At-loop-h) → length c.loop-h.list ≡ length c.args.list.now
 kept c =
     let a = c.args in
-    ap (λ (x : List ℕ). length x) c.loop-h.invariant.2 ∙ over_length (first_entries a.old.connections a.new.connections c.loop-h.h) a.list.now (room c)
+    ap (λ (x : List ℕ). length x) c.loop-h.invariant.1 ∙ over_length (first_entries a.old.now.connections a.new.now.connections c.loop-h.h) a.list.now (room c)
 
 pub loop-h-init : goal.loop-h-init
 unfolding those in_turn entries
-loop-h-init c = (omega arith, refl, refl)
+loop-h-init c = (refl, refl)
 
 pub put_move-requires : goal.put_move-requires
 put_move-requires c =
     let l = c.loop-h in
-    move_fits c.args.old.connections c.args.new.connections l.h l.at c.args.list.now l.list (omega arith) c.requires.2
-    (sym c.has_moved.ensures ∙ c.if-has_moved.true) l.invariant.1 l.invariant.2
+    move_fits c.args.old.now.connections c.args.new.now.connections l.h l.at c.args.list.now l.list (omega arith) c.requires
+    (sym c.has_moved.ensures ∙ c.if-has_moved.true) l.invariant.0 l.invariant.1
 
 pub overflow_add-at : goal.overflow_add-at
 overflow_add-at c =
     let l = c.loop-h in
     let a = c.args in
-    omega (arith, l.invariant.1, first_few a.old.connections a.new.connections l.h l.invariant.0)
+    omega (arith, l.invariant.0, first_few a.old.now.connections a.new.now.connections l.h (omega arith))
 
 pub loop-h-preserved : goal.loop-h-preserved
 loop-h-preserved c =
     let l = c.loop-h in
     let a = c.args in
-    let old = a.old.connections in
-    let new = a.new.connections in
+    let old = a.old.now.connections in
+    let new = a.new.now.connections in
     let says = c.has_moved.ensures in
     elim c.if-has_moved.branch [
       | then-has_moved w ↦ let moved = sym says ∙ w.if-has_moved.true in (
-        omega arith,
-        w.at-is ∙ move_ends old new l.h l.at a.list.now l.list (omega arith) c.requires.2 moved l.invariant.1 l.invariant.2,
-        w.list-is ∙ move_put old new l.h l.at a.list.now l.list (omega arith) c.requires.2 moved l.invariant.1 l.invariant.2 _ w.put_move.ensures,
+        w.at-is ∙ move_ends old new l.h l.at a.list.now l.list (omega arith) c.requires moved l.invariant.0 l.invariant.1,
+        w.list-is ∙ move_put old new l.h l.at a.list.now l.list (omega arith) c.requires moved l.invariant.0 l.invariant.1 _ w.put_move.ensures,
       )
       | else-has_moved w ↦ let e = entries_kept old new l.h (sym says ∙ w.if-has_moved.false) in
-          (omega arith, w.at-is ∙ l.invariant.1 ∙ ap (λ (x : List ℕ). length x) e, w.list-is ∙ l.invariant.2 ∙ ap (λ (x : List ℕ). over x a.list.now) e)
+          (w.at-is ∙ l.invariant.0 ∙ ap (λ (x : List ℕ). length x) e, w.list-is ∙ l.invariant.1 ∙ ap (λ (x : List ℕ). over x a.list.now) e)
     ]
 
 pub returns : goal.returns
@@ -60,4 +59,4 @@ returns c =
     let l = c.loop-h in
     let a = c.args in
     let e : l.h ≡ handles = omega arith in
-    written a.old.connections a.new.connections a.list.now (rw e at l.invariant.2)
+    written a.old.now.connections a.new.now.connections a.list.now (rw e at l.invariant.1)

@@ -1,0 +1,2 @@
+-- What a call that is counted answers.
+pub mod Sizes

@@ -1,6 +1,0 @@
-use native.Mathlib.Omega.{arith}
-use Rattle.text.proofs.Putting.{within_part}
-use Rattle.bench.proofs.tell_saving.Goals as goal
-
-pub slice_bounds-word-end : goal.slice_bounds-word-end
-slice_bounds-word-end g c = within_part c.put_saving-count.ensures (omega arith)

@@ -1,2 +1,0 @@
--- What was read lies within the buffer.
-pub mod Reading

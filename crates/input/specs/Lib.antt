@@ -1,2 +1,0 @@
--- What reading standard input promises.
-pub mod Promises
