@@ -4,3 +4,4 @@ pub mod BelowLaws
 pub mod BytesLaws
 pub mod StoreLaws
 pub mod LentLaws
+pub mod ChunkLaws

@@ -278,3 +278,7 @@ writing_injective = answered_injective wrote wrote_tells
 
 pub tidying_injective : (a b : Result ℕ Refusal) → answered tidied a ≡ answered tidied b → a ≡ b
 tidying_injective = answered_injective tidied tidied_tells
+
+pub tidied_injective : (a b : Done (Result ℕ Refusal)) (x y : List ℕ)
+    → listed (answered tidied) a x ≡ listed (answered tidied) b y → (a ≡ b) × (x ≡ y)
+tidied_injective = listed_injective (answered tidied) tidying_injective

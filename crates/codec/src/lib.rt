@@ -1,4 +1,4 @@
-//! Numbers in bytes, little-endian, in up to 4 bytes.
+//! Numbers in bytes, little-endian, in up to 4 bytes, at a place: README names both functions so.
 #![tactic(auto)]
 
 ghost use Rattle.std.specs.Prelude.{◌≡◌, ◌+◌, ◌≤◌, length, take, drop};

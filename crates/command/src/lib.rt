@@ -8,14 +8,15 @@ pub use obeying::obey;
 use rules::{MOST_OUTPUT, Schedule};
 pub use running::run;
 
-// The schedule after a line, and the place after what it printed.
+// The schedule after a line, and the place after what it printed; no `Done`, as a place is no answer.
 #[derive(Clone, Copy)]
 struct Carried {
     pub schedule: Schedule,
     pub at: usize,
 }
 
-/// The bytes that an input prints, from the start, and how many they are.
+/// The bytes that an input prints, from the start, and how many they are. No `Vec`: there is no heap;
+/// and `Runs` speaks of the bytes past the count too.
 #[derive(Clone, Copy)]
 pub struct Output {
     pub bytes: [u8; MOST_OUTPUT],

@@ -54,7 +54,7 @@ fn pass_connections(bytes: &[u8], at: usize, n: u32) -> Result<usize, Refusal>
     ensures { PassesAll bytes.now at n result }
 {
     let mut cursor = at;
-    for i in 0..n {
+    for _ in 0..n {
         cursor = pass(bytes, cursor, CONNECTION_KIND, CONNECTION_SIZE)?;
     }
     Ok(cursor)

@@ -2,14 +2,14 @@
 use mathlib.Core.Path.{◌≡◌, refl, sym, ap, ap₂, ◌∙◌}
 use mathlib.Core.Bool.{true}
 use mathlib.Core.List.{List, [], ◌∷◌, ◌++◌, append-nil, append_assoc}
-use Prim.Native.Nat.{ℕ, zero, suc, ◌+◌, ◌*◌, ◌/◌, ◌%◌, ◌<◌, ◌≤◌}
-use native.Mathlib.Nat.{add_comm, mul-suc}
+use Prim.Native.Nat.{ℕ, suc, ◌+◌, ◌*◌, ◌/◌, ◌%◌, ◌<◌, ◌≤◌}
 use native.Mathlib.Numerals.{add-one}
 use native.Mathlib.Omega.{arith}
 use lib.ListN.{length, get_or, take, drop, set, length-set}
-use lib.Seq.{drop-cons, drop-length, get_or-drop, get_or-take, drop-drop, length-take-le, take-suc-set}
+use lib.Seq.{drop-cons, drop-length, get_or-drop, length-take-le, take-suc-set}
 use Rattle.std.specs.Prelude.{Some}
 use Rattle.std.specs.Simd.{first_chunks}
+use Rattle.basics.proofs.ChunkLaws.{chunk_item}
 use Rattle.hexadecimal.specs.Hex.{hex_digit, hex, all_bytes}
 use Rattle.hexadecimal.specs.Promises.{ReadsHex}
 use Rattle.hexadecimal.proofs.HexLaws.{hex_snoc, hex_length, hex_rest, hex_first, all_drop, all_snoc}
@@ -35,20 +35,14 @@ Unread line start = (bs : List ℕ) → 0 < length bs → all_bytes bs ≡ true 
 pub wrong_size : (line : List ℕ) (start : ℕ) → ((n : ℕ) → 0 < n → length (drop start line) ≡ 2 * n → ⊥) → Unread line start
 wrong_size line start f bs l a e = f (length bs) l (ap (λ (x : List ℕ). length x) e ∙ hex_length bs)
 
--- The pair of place i.
-pub pair_at : (n k : ℕ) (xs : List ℕ) (i : ℕ) → i < k → get_or (first_chunks n k xs) i [] ≡ take n (drop (n * i) xs)
-pair_at n zero xs i h = absurd (omega arith)
-pair_at n (suc k) xs zero h = let e : 0 ≡ n * 0 = omega arith in ap (λ (m : ℕ). take n (drop m xs)) e
-pair_at n (suc k) xs (suc i) h = pair_at n k (drop n xs) i (omega arith) ∙ (let e : n + n * i ≡ n * suc i = add_comm n (n * i) ∙ sym (mul-suc n i) in ap (take n) (drop-drop (n * i) n xs ∙ ap (λ (m : ℕ). drop m xs) e))
-
+-- A digit of the pair of place i.
 pub digit_at : (line : List ℕ) (start k i j next : ℕ) → i < k → j < 2 → next ≡ start + 2 * i + j
     → get_or (get_or (first_chunks 2 k (drop start line)) i []) j 0 ≡ get_or line next 0
 digit_at line start k i j next h l e =
-    ap (λ (x : List ℕ). get_or x j 0) (pair_at 2 k (drop start line) i h)
-    ∙ get_or-take 2 (drop (2 * i) (drop start line)) j 0 l
-    ∙ ap (λ (x : List ℕ). get_or x j 0) (drop-drop (2 * i) start line)
-    ∙ get_or-drop (start + 2 * i) line j 0
-    ∙ ap (λ (m : ℕ). get_or line m 0) (sym e)
+    let past : start + (2 * i + j) ≡ next = omega (arith, e) in
+    chunk_item 2 k (drop start line) i j 0 h l
+    ∙ get_or-drop start line (2 * i + j) 0
+    ∙ ap (λ (m : ℕ). get_or line m 0) past
 
 module _ {line buffer : List ℕ} {start size next n : ℕ} (r : Read line start size buffer next n) where
   -- What is left are the digits of what is left of the bytes.

@@ -11,8 +11,8 @@ fn read_image(bytes: &[u8]) -> Result<(u8, Schedule), Refusal>
     ensures { ReadsImage bytes.now result }
 {
     let n = framed(bytes)?;
-    check_records(bytes, n as usize)?;
-    let new = restore(bytes, n as usize)?;
+    check_records(bytes, usize::from(n))?;
+    let new = restore(bytes, usize::from(n))?;
     if bytes[new.end + HEADER_SIZE..] != new.schedule.tree.bytes[..] {
         return Err(Refusal::TreeDiffers);
     }

@@ -28,9 +28,9 @@ fn put_run(buffer: &mut [u8], at: usize, handle: usize, c: Connection)
     ensures { buffer.new ≡ sets buffer.old at (little 1 handle ++ little 1 c.k ++ little 2 c.anchor ++ little 2 c.length) }
 {
     put_number(buffer, at, 1, handle as u32);
-    put_number(buffer, at + 1, 1, c.k as u32);
+    put_number(buffer, at + 1, 1, u32::from(c.k));
     put_number(buffer, at + 2, 2, c.anchor);
-    put_number(buffer, at + 4, 2, c.length as u32);
+    put_number(buffer, at + 4, 2, u32::from(c.length));
 }
 
 // What the length moves by: floor (2), ceiling (2), estimate (4).
@@ -38,8 +38,8 @@ fn put_share(buffer: &mut [u8], at: usize, c: Connection)
     requires { at + 8 ≤ length buffer.old }
     ensures { buffer.new ≡ sets buffer.old at (little 2 c.floor ++ little 2 c.ceiling ++ little 4 c.estimate) }
 {
-    put_number(buffer, at, 2, c.floor as u32);
-    put_number(buffer, at + 2, 2, c.ceiling as u32);
+    put_number(buffer, at, 2, u32::from(c.floor));
+    put_number(buffer, at + 2, 2, u32::from(c.ceiling));
     put_number(buffer, at + 4, 4, c.estimate);
 }
 

@@ -27,7 +27,7 @@ pub enum Order {
     State,
 }
 
-/// The schedule after a line, and how many bytes it printed.
+/// The schedule after a line, and how many bytes it printed; no `Done`, as the count is no answer.
 #[derive(Clone, Copy)]
 pub struct Performed {
     pub schedule: Schedule,

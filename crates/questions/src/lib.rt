@@ -15,11 +15,7 @@ fn owns(c: Connection, block: u32) -> bool
     requires { c.live ≡ true → Numbers c }
     ensures { result ≡ owns_block c block }
 {
-    if c.live {
-        minus_mod(c.k as u32, block, c.anchor) < c.length as u32
-    } else {
-        false
-    }
+    c.live && minus_mod(u32::from(c.k), block, c.anchor) < u32::from(c.length)
 }
 
 /// The handle of the connection that the block belongs to; none where it is idle.
@@ -45,5 +41,5 @@ pub fn anchor(s: Schedule, handle: u32, block: u32) -> Result<u32, Refusal>
     ensures { AnchorSays s handle block result }
 {
     let c = live_connection(&s, handle)?;
-    Ok(BLOCK_SLOTS * minus_mod(c.k as u32, c.anchor, block))
+    Ok(BLOCK_SLOTS * minus_mod(u32::from(c.k), c.anchor, block))
 }

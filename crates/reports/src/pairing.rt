@@ -28,12 +28,9 @@ fn gather(numbers: &[u32], n: usize) -> [Report; GATHERED]
         handle: 0,
         sample: 0,
     }; GATHERED];
-    for i in 0..n {
-        let r = Report {
-            handle: numbers[2 * i],
-            sample: numbers[2 * i + 1],
-        };
-        reports[i] = r;
+    let (pairs, _) = numbers.as_chunks::<2>();
+    for (i, &[handle, sample]) in pairs[..n].iter().enumerate() {
+        reports[i] = Report { handle, sample };
     }
     reports
 }

@@ -1,14 +1,16 @@
 -- The records of the connections in the bytes of an image, and the test of their numbers.
 use mathlib.Core.Path.{◌≡◌, refl, sym, ap, ap₂, ◌∙◌, subst}
 use mathlib.Core.Bool.{Bool, true, false, ◌||◌, or_assoc, or-false}
-use mathlib.Core.List.{List, ◌∷◌, ◌++◌}
-use Prim.Native.Nat.{ℕ, zero, suc, ◌+◌, ◌*◌, ◌<◌, ◌≤◌}
+use mathlib.Core.List.{List, [], ◌∷◌, ◌++◌, append_assoc, map}
+use Prim.Native.Nat.{ℕ, zero, suc, ◌+◌, ◌-◌, ◌*◌, ◌/◌, ◌<◌, ◌≤◌}
 use native.Mathlib.Numerals.{add-one}
 use native.Mathlib.Omega.{arith}
 use mir.Syntax.{w8}
 use mir.Val.{Fits}
-use lib.ListN.{length, get_or, take, drop, drop_of_length-le}
-use lib.Seq.{drop-cons, take_all}
+use lib.ListN.{length, get_or, take, drop, length-append, length-drop, drop_of_length-le}
+use lib.Seq.{drop-cons, take_at, drop_at, take_all}
+use Rattle.std.specs.Simd.{first_chunks}
+use Rattle.std.proofs.lemmas.List.{get_or-map, length-map}
 use Rattle.std.specs.Prelude.{Result, Ok, Err}
 use Rattle.rules.specs.declared.Refusal.{Refusal}
 use lib.Dec.{ltb}
@@ -19,62 +21,117 @@ use Rattle.rules.specs.Sound.{numbers_within}
 use Rattle.rules.specs.Refusals.{number}
 use Rattle.rules.specs.Steps.{refuses}
 use Rattle.rules.specs.Records.{Piece, bytes_of, joined, begin, pieces_of}
+use Rattle.rules.specs.Bytes.{little}
 use Rattle.rules.specs.Framing.{Framed}
 use Rattle.rules.specs.Fields.{handle_in, connection_in}
 use Rattle.rules.specs.Load.{largest_record_k, any_illegal}
 use Rattle.basics.proofs.BytesLaws.{AllBytes}
 use Rattle.images.proofs.RisingLaws.{sound_from, sound_from_lem, pieces_pass, handle_above, handle_falls, numbers_fail}
-use Rattle.images.proofs.PieceLaws.{nth, begin_next, stands_whole, stands_size, stands_part}
-use Rattle.images.proofs.FrameLaws.{framed_exactly, connections_long, tree_place, connection_stands, connection_sized, next_connection}
+use Rattle.images.proofs.PieceLaws.{nth, Each, each_nth, record_length, joined_append}
+use Rattle.images.proofs.FormLaws.{IsConnection, Parts, connections_inside}
+use Rattle.images.proofs.FrameLaws.{framed_exactly, connections_long, tree_place}
 use Rattle.restore.specs.LoadSteps.{of_soundness, checked, records_step}
 use Rattle.restore.specs.Promises.{records}
 
--- ---- where the record of connection i is
+-- ---- the records of the connections, one after the other
+joined_size : (rs : List Piece) → Each IsConnection rs → length (joined rs) ≡ length rs * 18
+unfolding joined
+joined_size [] e = refl
+joined_size (r ∷ rs) e =
+    let later = joined_size rs e.1 in
+    omega (arith, length-append (bytes_of r) (joined rs), record_length r, e.0.size_is, later)
+
+-- Chunks of as many bytes are the records.
+chunks_are : (rs : List Piece) (k : ℕ) (later : List ℕ) → length rs ≤ k → Each IsConnection rs
+    → take (length rs) (first_chunks 18 k (joined rs ++ later)) ≡ map bytes_of rs
+unfolding joined
+chunks_are [] k later l e = refl
+chunks_are (r ∷ rs) zero later l e = absurd (omega arith)
+chunks_are (r ∷ rs) (suc k) later l e =
+    let size : length (bytes_of r) ≡ 18 = omega (arith, record_length r, e.0.size_is) in
+    let rest = joined rs ++ later in
+    let split = append_assoc (bytes_of r) (joined rs) later in
+    ap₂ (λ (x : List ℕ) (xs : List (List ℕ)). x ∷ xs)
+    (ap (take 18) split ∙ take_at (bytes_of r) rest 18 size)
+    (ap (λ (xs : List ℕ). take (length rs) (first_chunks 18 k xs))
+    (ap (drop 18) split ∙ drop_at (bytes_of r) rest 18 size)
+    ∙ chunks_are rs k later (omega arith) e.1)
+
 module _ (bytes : List ℕ) (n : ℕ) (f : Framed bytes n) (fits : (i : ℕ) → Fits w8 (get_or bytes i 0)) where
   small : AllBytes bytes
   small i = (fits i).fits
 
+  parts : Parts n (pieces_of bytes)
+  parts = (framed_exactly bytes n f).parts
+
   pub long : length (records bytes) ≡ n
   long = connections_long bytes n f small
 
-  -- The records before it have the sizes that the frame asks for.
-  pub begins : (i : ℕ) → i ≤ n → begin (pieces_of bytes) (suc i) ≡ 6 + i * 18
+  each_of : Each IsConnection (records bytes)
+  each_of =
+      let inside = connections_inside n (pieces_of bytes) parts in
+      subst (Each IsConnection) (sym inside) parts.connections
+
+  counted : length (bytes_of parts.first) ≡ 6
+  counted = omega (arith, record_length parts.first, parts.counts.size_is)
+
+  -- Where the record after them begins, which is within the bytes.
+  pub ends_at : begin (pieces_of bytes) (suc n) ≡ 6 + n * 18
   unfolding joined
-  begins zero l =
-      let p = (framed_exactly bytes n f).parts in
-      let some : 0 < length (pieces_of bytes) = omega (arith, ap {B = ℕ} length p.whole) in
-      let first = ap (λ (rs : List Piece). length (nth rs 0).payload) p.whole ∙ p.counts.size_is in
-      omega (arith, begin_next (pieces_of bytes) 0 some, first)
-  begins (suc i) l =
-      let sized = connection_sized bytes n f small i l in
-      let stands = connection_stands bytes n f small i l in
-      let says = stands_size bytes _ (nth (records bytes) i) _ stands (omega (arith, sized)) in
-      omega (arith, begins i (omega arith), next_connection bytes n f small i l, says, sized)
+  ends_at =
+      let p = parts in
+      let upto = take_at p.each (p.last ∷ []) n p.number in
+      let e = ap (λ (rs : List Piece). begin rs (suc n)) p.whole in
+      let f = ap (λ (rs : List Piece). length (bytes_of p.first ++ joined rs)) upto in
+      let split = length-append (bytes_of p.first) (joined p.each) in
+      omega (arith, e ∙ f, split, counted, joined_size p.each p.connections, p.number)
 
-  -- The last ends within the bytes.
   pub end_room : 6 + n * 18 ≤ length bytes
-  end_room = omega (arith, begins n (omega arith), tree_place bytes n f small)
+  end_room = omega (arith, ends_at, tree_place bytes n f small)
 
-  module _ (i : ℕ) (l : i < n) where
-    -- What `payload` asks.
-    pub inside : Framed bytes (length (records bytes)) × (i < length (records bytes))
-    inside = (subst (Framed bytes) (sym long) f, omega (arith, long))
+  after_count : drop 6 bytes ≡ joined (records bytes) ++ joined (parts.last ∷ [])
+  unfolding joined
+  after_count =
+      let p = parts in
+      let rest = p.each ++ (p.last ∷ []) in
+      let inside = connections_inside n (pieces_of bytes) p in
+      ap (drop 6) (sym (framed_exactly bytes n f).records ∙ ap joined p.whole)
+      ∙ drop_at (bytes_of p.first) (joined rest) 6 counted
+      ∙ joined_append p.each (p.last ∷ [])
+      ∙ ap (λ (rs : List Piece). joined rs ++ joined (p.last ∷ [])) (sym inside)
 
-    here : drop (6 + i * 18) bytes ≡ bytes_of (nth (records bytes) i) ++ joined (drop (suc (suc i)) (pieces_of bytes))
-    here = ap (λ (k : ℕ). drop k bytes) (sym (begins i (omega arith))) ∙ connection_stands bytes n f small i l
+  -- What is behind the count's record, as a slice of the bytes has it.
+  behind : take (length bytes - 6) (drop 6 bytes) ≡ drop 6 bytes
+  behind = take_all (length bytes - 6) (drop 6 bytes) (omega (arith, length-drop 6 bytes))
 
-    pub payload_room : 6 + i * 18 + 4 + 14 ≤ length bytes
-    payload_room =
-        let whole = stands_whole bytes (6 + i * 18) (nth (records bytes) i) _ here in
-        omega (arith, whole, connection_sized bytes n f small i l)
+  pub chunks_room : n ≤ length (take (length bytes - 6) (drop 6 bytes)) / 18
+  chunks_room = omega (arith, end_room, length-drop 6 bytes, ap {B = ℕ} length behind)
 
-    pub payload_is : take 14 (drop (6 + i * 18 + 4) bytes) ≡ (nth (records bytes) i).payload
-    payload_is =
-        let sized = connection_sized bytes n f small i l in
-        let e : 6 + i * 18 + 4 ≡ 6 + i * 18 + 4 + 0 = omega arith in
-        ap (λ (k : ℕ). take 14 (drop k bytes)) e
-        ∙ stands_part bytes (6 + i * 18) (nth (records bytes) i) _ here 0 14 (omega (arith, sized))
-        ∙ take_all 14 (nth (records bytes) i).payload (omega (arith, sized))
+  pub chunked : (k : ℕ) → n ≤ k
+      → take n (first_chunks 18 k (take (length bytes - 6) (drop 6 bytes)))
+      ≡ map bytes_of (records bytes)
+  chunked k l =
+      ap₂ (λ (m : ℕ) (xs : List ℕ). take m (first_chunks 18 k xs)) (sym long) (behind ∙ after_count)
+      ∙ chunks_are (records bytes) k (joined (parts.last ∷ [])) (omega (arith, long)) each_of
+
+  module _ (items : List (List ℕ)) (e : items ≡ map bytes_of (records bytes)) where
+    pub as_many : length items ≡ length (records bytes)
+    as_many = ap {B = ℕ} length e ∙ length-map (records bytes) bytes_of
+
+    -- One of them: it is record i, and its payload is behind four bytes of it.
+    module _ (i : ℕ) (l : i < length items) where
+      pub listed : i < length (records bytes)
+      listed = omega (arith, l, as_many)
+
+      pub payload_is : (d : List ℕ)
+          → take 14 (drop 4 (get_or items i d)) ≡ (nth (records bytes) i).payload
+      unfolding bytes_of little
+      payload_is d =
+          let rs = records bytes in
+          let sized = (each_nth IsConnection rs i listed each_of).size_is in
+          ap (λ (xs : List (List ℕ)). take 14 (drop 4 (get_or xs i d))) e
+          ∙ ap (λ (xs : List ℕ). take 14 (drop 4 xs)) (get_or-map bytes_of rs i _ d listed)
+          ∙ take_all 14 (nth rs i).payload (omega (arith, sized))
 
 -- ---- both checks up to record i: what they say is what they say of the records from i on, where `illegal` says whether a k above 8 was seen
 abbrev pub Tested : List Piece → ℕ → ℕ → Bool → Type 0

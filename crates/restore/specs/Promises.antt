@@ -1,5 +1,5 @@
 -- What the checks of an image's connections promise.
-use Rattle.std.specs.Prelude.{ℕ, suc, ◌≡◌, true, false, List, [], length, take, slice_index_or, Result, Ok, Err}
+use Rattle.std.specs.Prelude.{ℕ, suc, ◌≡◌, true, false, List, length, take, Result, Ok, Err}
 use Rattle.rules.specs.declared.Refusal.{Refusal}
 use Rattle.rules.specs.declared.Refusal.TheVariants.{BlockOwnedTwice}
 use Rattle.rules.specs.Below.{largest}
@@ -17,10 +17,6 @@ Reads f payload said = (r : Piece) → r.payload ≡ payload → said ≡ f r
 -- The records of the connections in the bytes.
 abbrev pub records : List ℕ → List Piece
 records bytes = connections_in (pieces_of bytes)
-
--- Record i of them, from 0 on.
-abbrev pub record_at : List ℕ → ℕ → Piece
-record_at bytes i = slice_index_or (records bytes) i (record { kind = 0; payload = [] })
 
 -- The most of the records, from the first on, of which no two own one block.
 abbrev pub most_apart : List Piece → ℕ

@@ -1,16 +1,17 @@
 //! The connections of an image: checks 10, 18 and 11 of a load.
 #![tactic(auto)]
 
-ghost use Rattle.std.specs.Prelude.{◌≡◌, true, ◌+◌, ◌<◌, ◌≤◌, ◌^◌, length};
+ghost use Rattle.std.specs.Prelude.{◌≡◌, true, ◌+◌, ◌<◌, ◌≤◌, ◌^◌, length, map};
 ghost use Rattle.rules.specs.Ownership.{largest_k};
 ghost use Rattle.rules.specs.Sound.{numbers_within};
 ghost use Rattle.rules.specs.Bytes.{number_at};
+ghost use Rattle.rules.specs.Records.{bytes_of};
 ghost use Rattle.rules.specs.Form.{connection_size};
 ghost use Rattle.rules.specs.Framing.{Framed};
 ghost use Rattle.rules.specs.Fields.{handle_in, connection_in};
 ghost use Rattle.rules.specs.Load.{largest_record_k, records_within};
 ghost use Rattle.restore.specs.LoadSteps.{of_soundness, records_step};
-ghost use Rattle.restore.specs.Promises.{Reads, record_at, records, Restores};
+ghost use Rattle.restore.specs.Promises.{Reads, records, Restores};
 
 use rules::{
     BLOCK_MICROS, CONNECTION_RECORD, CONNECTION_SIZE, COUNT_RECORD, Connection, HANDLES,
@@ -25,14 +26,13 @@ pub struct Restored {
     pub end: usize,
 }
 
-// The payload of connection i's record: the records before it have the sizes of their kinds.
-fn payload(bytes: &[u8], i: usize) -> &[u8]
-    requires { Framed bytes.now (length (records bytes.now)) × (i < length (records bytes.now)) }
-    ensures is { result.now ≡ (record_at bytes.now i).payload }
-    ensures size { length result.now ≡ connection_size }
+// The records of the n connections, each with its header.
+fn connection_records(bytes: &[u8], n: usize) -> &[[u8; CONNECTION_RECORD]]
+    requires { Framed bytes.now n }
+    ensures { result.now ≡ map bytes_of (records bytes.now) }
 {
-    let start = COUNT_RECORD + i * CONNECTION_RECORD + HEADER_SIZE;
-    &bytes[start..start + CONNECTION_SIZE as usize]
+    let (records, _) = bytes[COUNT_RECORD..].as_chunks();
+    &records[..n]
 }
 
 // The number in `width` bytes of a payload, from its byte `start` on.
@@ -73,12 +73,12 @@ fn numbers_within(c: Connection) -> bool
     ensures { result ≡ numbers_within largest_record_k c }
 {
     c.k <= LARGEST_RECORD_K
-        && c.anchor < factor(c.k as u32)
+        && c.anchor < factor(u32::from(c.k))
         && 1 <= c.floor
         && c.floor <= c.length
         && c.length <= c.ceiling
-        && c.ceiling as u32 <= factor(c.k as u32)
-        && c.estimate <= c.length as u32 * BLOCK_MICROS
+        && u32::from(c.ceiling) <= factor(u32::from(c.k))
+        && c.estimate <= u32::from(c.length) * BLOCK_MICROS
 }
 
 /// Check 10: each record's numbers are sound, and the handles rise. Check 18: no k is above the
@@ -89,10 +89,10 @@ pub fn check_records(bytes: &[u8], n: usize) -> Result<(), Refusal>
 {
     let mut least: u8 = 0;
     let mut answer = Ok(());
-    for i in 0..n {
-        let record = payload(bytes, i);
-        let h = handle_in(record);
-        let c = connection_in(record);
+    for record in connection_records(bytes, n) {
+        let payload = &record[HEADER_SIZE..];
+        let h = handle_in(payload);
+        let c = connection_in(payload);
         if h >= HANDLES as u8 || h < least || !numbers_within(c) {
             return Err(Refusal::NumbersUnsound);
         }
@@ -111,16 +111,16 @@ pub fn restore(bytes: &[u8], n: usize) -> Result<Restored, Refusal>
     ensures { Restores bytes.now result }
 {
     let mut s = fresh();
-    for i in 0..n {
-        let record = payload(bytes, i);
-        let c = connection_in(record);
-        let k = c.k as u32;
-        let length = c.length as u32;
+    for record in connection_records(bytes, n) {
+        let payload = &record[HEADER_SIZE..];
+        let c = connection_in(payload);
+        let k = u32::from(c.k);
+        let length = u32::from(c.length);
         if !run_free(&s.tree.bytes, k, c.anchor, length) {
             return Err(Refusal::BlockOwnedTwice);
         }
         set_run(&mut s.tree.bytes, k, c.anchor, 0, length, true);
-        let h = handle_in(record) as usize;
+        let h = usize::from(handle_in(payload));
         s.connections[h] = c;
     }
     let end = COUNT_RECORD + n * CONNECTION_RECORD;

@@ -97,8 +97,9 @@ pub const MOST_OUTPUT: usize = 4 * MOST_INPUT;
 
 // ---- the schedule
 
-/// A connection's share of the radio; its handle is its place in the schedule. Sixteen bytes, none of them between two fields:
-/// so a schedule is copied as a whole.
+/// A connection's share of the radio; its handle is its place in the schedule. Sixteen bytes, none of
+/// them between two fields: so a schedule is copied as a whole. `live` is no `Option` around it, as C
+/// has these bytes, and a free slot is zeros.
 #[repr(C)]
 #[derive(Clone, Copy, Default)]
 pub struct Connection {
@@ -119,6 +120,8 @@ pub struct Tree {
 }
 
 /// One gateway's schedule: the connection of each handle, and the tree of the blocks that they take.
+/// That it is good is a clause of each call and no ghost field: it goes to C by value, and the
+/// definitions speak of schedules that are not good.
 #[repr(C)]
 #[derive(Clone, Copy)]
 pub struct Schedule {
@@ -246,7 +249,8 @@ pub enum Reply {
 
 // ---- the command text
 
-/// A command: a call that a line can make, with its numbers.
+/// A command: a call that a line can make, with its numbers, in the sheet's order. They are no struct
+/// of their own: the sheet's calls and C's take them one by one.
 #[derive(Clone, Copy)]
 pub enum Command {
     Admit {

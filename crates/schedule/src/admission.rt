@@ -21,7 +21,7 @@ fn new_connection(k: u8, anchor: u32, floor: u16, ceiling: u16) -> Connection
         floor,
         ceiling,
         anchor,
-        estimate: floor as u32 * BLOCK_MICROS - GUARD_MICROS,
+        estimate: u32::from(floor) * BLOCK_MICROS - GUARD_MICROS,
     }
 }
 
@@ -43,8 +43,8 @@ fn place(
     let h = handle as usize;
     let live = s.connections[h].live;
     let to = plan(&s.tree.bytes, live, smallest, largest, floor, ceiling)?;
-    let k = to.k as u32;
-    let anchor = to.anchor as u32;
+    let k = u32::from(to.k);
+    let anchor = u32::from(to.anchor);
     set_run(&mut s.tree.bytes, k, anchor, 0, floor, true);
     s.connections[h] = new_connection(to.k, anchor, floor as u16, ceiling as u16);
     Ok(Placed {

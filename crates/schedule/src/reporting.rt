@@ -15,13 +15,13 @@ pub fn settle(tree: &mut [u8; TREE_BYTES], c: Connection, aim: u16) -> Adjusted
     requires { Numbers c × (aim ≤ c.ceiling) × IsTree tree.old }
     ensures { Settles c aim tree.old tree.new result }
 {
-    let k = c.k as u32;
-    let length = c.length as u32;
-    if aim as u32 == length {
+    let k = u32::from(c.k);
+    let length = u32::from(c.length);
+    if aim == c.length {
         return Adjusted::Kept(aim);
     }
-    if (aim as u32) < length {
-        set_run(tree, k, c.anchor, aim as u32, length, false);
+    if aim < c.length {
+        set_run(tree, k, c.anchor, u32::from(aim), length, false);
         return Adjusted::Shrunk(aim);
     }
     if tree::is_free(tree, k, class_at(k, c.anchor, length)) {
@@ -58,7 +58,7 @@ fn meter(s: &mut Schedule, handle: u32, sample: u32) -> Result<Adjusted, Refusal
     ensures { Reports s.old handle sample (record { answer = result; schedule = s.new }) }
 {
     let c = live_connection(s, handle)?;
-    if c.length as u32 * BLOCK_MICROS < sample {
+    if u32::from(c.length) * BLOCK_MICROS < sample {
         return Err(Refusal::SampleAboveRun);
     }
     let m = move_meter(c.estimate, c.length, sample, c.floor, c.ceiling);

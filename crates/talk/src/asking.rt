@@ -19,7 +19,7 @@ const AFTER_CHANGE: usize = 6;
 const LONGEST_ROW: usize = 7;
 
 /// A message to read from so many bytes of the lent buffer, one to write into so many, a bad line,
-/// or one that is none of these.
+/// or one that is none of these: four things to do, so no `Option` of a `Result`.
 #[derive(Clone, Copy)]
 pub enum Asked {
     Read(usize),

@@ -1,4 +1,5 @@
-//! Words and numbers, written at a place; each answers the place after it.
+//! Words and numbers, written at a place; each answers the place after it. The slice and the place
+//! are no struct: README names these functions, and a caller may have any slice and any place in it.
 ghost use Rattle.std.specs.Prelude.{◌+◌, ◌*◌, ◌≤◌, [], ◌∷◌, ◌++◌, length, ◌≡◌};
 ghost use Rattle.rules.specs.Refusals.{number};
 ghost use Rattle.rules.specs.Decimal.{decimal};
@@ -63,7 +64,7 @@ pub fn put_count(out: &mut [u8], at: usize, word: &[u8], n: u32) -> usize
     put_spaced(out, a, n)
 }
 
-/// The table's number of a refusal, row by row as the sheet has it.
+/// The table's number of a refusal, row by row as the sheet has it: its wrong versions change a row.
 pub fn refusal_number(r: Refusal) -> u32
     ensures { result ≡ number r }
 {

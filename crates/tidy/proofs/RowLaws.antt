@@ -25,39 +25,10 @@ use Rattle.place.specs.Promises.{row_classes, Stretches}
 use Rattle.tidy.specs.Promises.{Row, Widens, TakesRow}
 
 -- ---- widened
--- The upper half has been written up to class c.
-pub record WidenedTo (k c : ℕ) (entry room : List ℕ) : Type 0 where
-  pub long : length room ≡ row_classes
-  pub lower : (A : ℕ) → A < 2 ^ k / 2 → get_or room A 0 ≡ get_or entry A 0
-  pub upper : (A : ℕ) → 2 ^ k / 2 ≤ A → A < c → get_or room A 0 ≡ get_or entry (A - 2 ^ k / 2) 0
-  pub ahead : (A : ℕ) → c ≤ A → get_or room A 0 ≡ get_or entry A 0
-
-pub widened_none : (k : ℕ) (entry : List ℕ) → length entry ≡ row_classes → WidenedTo k (2 ^ k / 2) entry entry
-widened_none k entry e = record { long = e; lower = λ A l. refl; upper = λ A h l. absurd (omega arith); ahead = λ A l. refl }
-
--- The class that is read has not been written, or is the only one.
-halved : (k c : ℕ) → 2 ^ k / 2 ≤ c → c < 2 ^ k → (P : Type 0) → (c - 2 ^ k / 2 < 2 ^ k / 2 → P) → (c ≤ c - 2 ^ k / 2 → P) → P
-halved zero c h l P f g = g (omega arith)
-halved (suc k) c h l P f g = f (omega (arith, pow-suc 2 k))
-
-pub widened_next : (k c : ℕ) (entry room : List ℕ) → k ≤ largest_k → 2 ^ k / 2 ≤ c → c < 2 ^ k → WidenedTo k c entry room
-    → WidenedTo k (c + 1) entry (set room c (get_or room (c - 2 ^ k / 2) 0))
-widened_next k c entry room hk h l w =
-    let x = get_or room (c - 2 ^ k / 2) 0 in
-    let g : 2 ^ k ≤ row_classes = pow_mono hk in
-    let inside : c < length room = omega (arith, w.long) in
-    record {
-      long = length-set room c x ∙ w.long;
-      lower = λ A m. get_or-set_other room c A x 0 (omega arith) ∙ w.lower A m;
-      upper = λ A m n.
-          by_cases (ℕ_discrete A c)
-          (λ q. rw q (get_or-set_same room c x 0 inside ∙ halved k c h l _ (λ m. w.lower _ m) (λ m. w.ahead _ m)))
-          (λ q. get_or-set_other room c A x 0 q ∙ w.upper A m (omega arith));
-      ahead = λ A m. get_or-set_other room c A x 0 (omega arith) ∙ w.ahead A (omega arith);
-    }
-
-pub widened_all : (k : ℕ) (entry room : List ℕ) → WidenedTo k (2 ^ k) entry room → Widens k entry room
-widened_all k entry room w = record { long = w.long; lower = w.lower; upper = w.upper }
+-- What is past both halves: there is one class, and no half.
+pub past_halves : (k A : ℕ) → 2 ^ k / 2 + 2 ^ k / 2 ≤ A → A < 2 ^ k → 2 ^ k / 2 ≡ 0
+past_halves zero A h l = refl
+past_halves (suc k) A h l = absurd (omega (arith, pow-suc 2 k))
 
 -- ---- a run taken
 pub taken_none : (k A : ℕ) (entry : List ℕ) → length entry ≡ row_classes → TakesRow k A 0 entry entry

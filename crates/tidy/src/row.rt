@@ -7,21 +7,19 @@ ghost use Rattle.tidy.specs.Promises.{Widens, TakesRow};
 use place::ROW_CLASSES;
 use run::{class_at, factor};
 
-// Every connection that is placed has a factor below F: a class is taken exactly if its remainder by half of F is.
+// Every connection that is placed has a factor below F: a class is taken exactly if its remainder
+// by half of F is.
 pub fn widen(room: &mut [u16; ROW_CLASSES], k: u32)
-    requires { (k ≤ largest_k) × (length room.old ≡ row_classes) }
+    requires { k ≤ largest_k }
     ensures { Widens k room.old room.new }
 {
-    let f = factor(k) as usize;
-    let half = f >> 1;
-    for c in half..f {
-        room[c] = room[c - half];
-    }
+    let half = factor(k) as usize / 2;
+    room.copy_within(..half, half);
 }
 
 // The classes of a run are taken.
 pub fn take_run(room: &mut [u16; ROW_CLASSES], k: u32, anchor: u32, blocks: u32)
-    requires { (k ≤ largest_k) × (anchor < 2 ^ k) × (blocks ≤ 2 ^ k) × (length room.old ≡ row_classes) }
+    requires { (k ≤ largest_k) × (anchor < 2 ^ k) × (blocks ≤ 2 ^ k) }
     ensures { TakesRow k anchor blocks room.old room.new }
 {
     for j in 0..blocks {

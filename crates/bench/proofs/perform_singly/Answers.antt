@@ -1,4 +1,3 @@
-use mathlib.Core.Path.{◌≡◌}
 use Rattle.rules.specs.Text.{text}
 use Rattle.text.proofs.Opening.{opens_long}
 use Rattle.bench.proofs.perform_singly.Goals as goal

@@ -35,18 +35,19 @@ numbers c =
     rw l.is ((good_sound c.args.s c.requires).numbers _ l.live)
 
 pub minus_mod-requires : goal.minus_mod-requires
-minus_mod-requires c = within_depth (numbers (goal.at.minus_mod-requires c).In_ok-c).deep
+minus_mod-requires c =
+    rw c.from.ensures (within_depth (numbers (goal.at.minus_mod-requires c).In_ok-c).deep)
 
 pub overflow_mul-result : goal.overflow_mul-result
 overflow_mul-result c =
     let n = numbers (goal.at.overflow_mul-result c).In_ok-c in
     let g : 2 ^ c.in_ok-c.c.k ≤ 512 = pow_mono (within_depth n.deep) in
-    omega (arith, c.minus_mod.ensures.below)
+    omega (arith, rw c.from.ensures at c.minus_mod.ensures.below)
 
 pub returns : goal.returns
 unfolding slots_to_anchor
 returns c =
     let l = c.in_ok-c.ensures in
-    let m = rw l.is at c.minus_mod.ensures in
+    let m = rw (c.from.ensures, l.is) at c.minus_mod.ensures in
     ap (λ (n : ℕ). slots (6 * n)) m.is
     ∙ sym (anchor_ok c.args.s _ _ l.bounded l.live)

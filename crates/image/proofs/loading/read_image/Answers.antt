@@ -24,7 +24,8 @@ returns-in_err-check_records c s =
 
 -- checks 10 and 18 are passed
 pub restore-requires : goal.restore-requires
-restore-requires c = (c.in_ok-n.ensures, checked_sound _ c.in_ok-check_records.ensures)
+restore-requires c =
+    rw c.from-2.ensures (c.in_ok-n.ensures, checked_sound _ c.in_ok-check_records.ensures)
 
 pub returns-in_err-new : goal.returns-in_err-new
 returns-in_err-new c s =

@@ -4,4 +4,7 @@ use Rattle.image.proofs.writing.put_share.Goals as goal
 pub returns : goal.returns
 returns c =
     let a = c.args in
-    share_put a.buffer.now a.at a.c.floor a.c.ceiling a.c.estimate c.put_number.ensures c.put_number-2.ensures c.put_number-3.ensures
+    let floor = rw c.from.ensures at c.put_number.ensures in
+    let ceiling = rw c.from-2.ensures at c.put_number-2.ensures in
+    share_put a.buffer.now a.at a.c.floor a.c.ceiling a.c.estimate
+    floor ceiling c.put_number-3.ensures

@@ -43,6 +43,7 @@ returns-in_err-to c =
 pub set_run-requires : goal.set_run-requires
 set_run-requires c =
     let b = bounds (goal.at.set_run-requires c).In_ok-to in
+    rw (c.from-k.ensures, c.from-anchor.ensures)
     (within_depth b.deep, b.anchored, omega arith, le_trans b.floored b.whole, treed c.args.s.now c.requires)
 
 pub overflow_cast-floor : goal.overflow_cast-floor
@@ -55,10 +56,14 @@ pub new_connection-requires : goal.new_connection-requires
 new_connection-requires c = omega (arith, bounds (goal.at.new_connection-requires c).In_ok-to, small (goal.at.new_connection-requires c).In_ok-to)
 
 pub factor-requires : goal.factor-requires
-factor-requires c = within_depth (bounds (goal.at.factor-requires c).In_ok-to).deep
+factor-requires c =
+    rw c.from-k.ensures (within_depth (bounds (goal.at.factor-requires c).In_ok-to).deep)
 
 pub returns : goal.returns
 returns c =
+    let f = rw c.from-k.ensures at c.factor.ensures.is in
+    let made = rw c.from-anchor.ensures at c.new_connection.ensures in
+    let set = rw (c.from-k.ensures, c.from-anchor.ensures) at c.set_run.ensures in
     admits c.args.s.now c.requires _ _ _ _ _ _
     (admit_made c.args.s.now c.requires _ _ _ _ _ c.if-handle-gt-LAST_HANDLE.false _ _ _ _ _ (placed (goal.at.returns c).In_ok-to)
-    (planned_free _ _ _ _ _ _ _ _ (placed (goal.at.returns c).In_ok-to)) c.factor.ensures.is c.new_connection.ensures c.set_run.ensures)
+    (planned_free _ _ _ _ _ _ _ _ (placed (goal.at.returns c).In_ok-to)) f made set)

@@ -15,7 +15,7 @@ pub list_anchors-requires : goal.list_anchors-requires
 list_anchors-requires c = c.requires.1
 
 pub widen-requires : goal.widen-requires
-widen-requires c = (c.requires.1, c.requires.2.long)
+widen-requires c = c.requires.1
 
 pub loop-h-init : goal.loop-h-init
 loop-h-init c = placing_begins c.args.s.now.connections c.args.k c.args.new.now c.args.room.now c.widen.new.room c.requires.2 c.widen.ensures
@@ -56,7 +56,7 @@ small c =
 pub take_run-requires : goal.take_run-requires
 take_run-requires c =
     let l = c.loop-h in
-    (c.requires.1, small (goal.at.take_run-requires c).In-Some, (fits (goal.at.take_run-requires c).Then-is_of).1, l.invariant.long)
+    (c.requires.1, small (goal.at.take_run-requires c).In-Some, (fits (goal.at.take_run-requires c).Then-is_of).1)
 
 pub set_run-requires : goal.set_run-requires
 set_run-requires c =

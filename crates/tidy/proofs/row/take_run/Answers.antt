@@ -7,7 +7,7 @@ use Rattle.tidy.proofs.RowLaws.{taken_none, taken_next}
 use Rattle.tidy.proofs.row.take_run.Goals as goal
 
 pub loop-j-init : goal.loop-j-init
-loop-j-init c = (omega arith, taken_none c.args.k c.args.anchor c.args.room.now c.requires.3)
+loop-j-init c = (omega arith, taken_none c.args.k c.args.anchor c.args.room.now c.told-room)
 
 pub class_at-requires : goal.class_at-requires
 class_at-requires c = (omega (arith, c.requires.0), c.requires.1, omega (arith, c.requires.2, c.loop-j-test.true))
