@@ -8,10 +8,33 @@ use Rattle.std.specs.Result.{MatchResult, IsOkAnd}
 use Rattle.rules.specs.declared.Message.{Message}
 use Rattle.rules.specs.declared.Refusal.{Refusal}
 use Rattle.rules.specs.Answers.{Answer, answered, message}
+use Rattle.rules.specs.Answers.{saved, loaded, reported, tidied, wrote}
+use Rattle.rules.specs.Text.{text}
 use Rattle.rules.specs.Words.{spaced, words_of, longest_message}
 use Rattle.text.specs.Promises.{Puts, PutsWithin}
 use Rattle.text.proofs.Putting.{puts_row, puts_as, within_as}
 use Rattle.answer.specs.Promises.{Counts, counted, PutsCounted, PutsWords}
+
+-- The words of each answer that counts: its own word, and the number.
+pub counts_saved : Counts (text "saved") saved
+unfolding words_of
+counts_saved n = refl
+
+pub counts_loaded : Counts (text "loaded") loaded
+unfolding words_of
+counts_loaded n = refl
+
+pub counts_reported : Counts (text "reported") reported
+unfolding words_of
+counts_reported n = refl
+
+pub counts_tidied : Counts (text "tidied") tidied
+unfolding words_of
+counts_tidied n = refl
+
+pub counts_wrote : Counts (text "wrote") wrote
+unfolding words_of
+counts_wrote n = refl
 
 -- What is put for a word and an answer are the words of the answer that has this word.
 pub counts : (says : ℕ → Answer) (word : List ℕ) → Counts word says → (a : Result ℕ Refusal)

@@ -24,6 +24,7 @@ pub fn put_number(buffer: &mut [u8], at: usize, width: usize, n: u32)
 {
     let mut rest = n;
     for byte in &mut buffer[at..at + width] {
+        // a remainder by 256 is a byte: nothing is lost
         *byte = (rest % 256) as u8;
         rest = rest / 256;
     }

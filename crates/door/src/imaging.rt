@@ -15,6 +15,7 @@ pub extern "C" fn beak_saved(s: Schedule, buffer: &mut [u8]) -> Said
     requires { Good s }
     ensures { Writes (save_rule s buffer.old) buffer.new result }
 {
+    // an image is below 2,000 bytes: nothing is lost
     save(s, buffer).map_or_else(refused, |size| say(Kind::Saved, size as u32))
 }
 

@@ -23,6 +23,7 @@ pub extern "C" fn beak_message_read(bytes: &[u8]) -> Read
 fn written(message: Message, buffer: &mut [u8]) -> Said
     ensures { Writes (write_message message buffer.old) buffer.new result }
 {
+    // a message is below 20 bytes: nothing is lost
     write_message(message, buffer).map_or_else(refused, |size| say(Kind::Wrote, size as u32))
 }
 

@@ -28,6 +28,7 @@ fn read_header(bytes: &[u8], at: usize) -> Result<Record, Refusal>
     }
     let size = codec::number(bytes, at, 2);
     let kind = codec::number(bytes, at + 2, 2);
+    // a u32 as a place, which `From` does not give
     let whole = size as usize + HEADER_SIZE;
     if left < whole {
         return Err(Refusal::RecordsWrong);
@@ -75,5 +76,6 @@ pub fn framed(bytes: &[u8]) -> Result<u8, Refusal>
     if over != bytes.len() {
         return Err(Refusal::RecordsWrong);
     }
+    // at most 64: nothing is lost
     Ok(n as u8)
 }

@@ -17,6 +17,7 @@ fn two_at(bytes: &[u8], at: usize) -> u16
     requires { at + 2 ≤ length bytes.now }
     ensures { result ≡ number_at bytes.now at 2 }
 {
+    // of two bytes: nothing is lost
     number(bytes, at, 2) as u16
 }
 
@@ -49,6 +50,7 @@ fn change_at(bytes: &[u8], at: usize) -> SubrateChange
 {
     let f = five_at(bytes, at + 1);
     SubrateChange {
+        // of one byte: nothing is lost
         status: number(bytes, at, 1) as u8,
         handle: f.first,
         factor: f.top,

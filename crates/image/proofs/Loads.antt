@@ -3,7 +3,7 @@ use mathlib.Core.Path.{◌≡◌, refl, sym, ap, ap₂, ◌∙◌, subst}
 use mathlib.Core.Bool.{Bool, true, false, not, ◌&&◌}
 use mathlib.Core.Logic.{⊎_elim}
 use native.Mathlib.Omega.{arith}
-use Rattle.std.specs.Prelude.{Result, Ok, Err}
+use Rattle.std.specs.Prelude.{Result, Ok, Err, is_ok, if◌then◌else◌}
 use Rattle.std.proofs.lemmas.Bool.{not-true, not-false}
 use Rattle.std.specs.Cmp.Lexicographic.{pointwise}
 use lib.Dec.{eqb}
@@ -17,7 +17,6 @@ use Rattle.rules.specs.declared.Connection.{Connection}
 use Rattle.rules.specs.declared.Schedule.{Schedule}
 use Rattle.rules.specs.declared.Refusal.TheVariants.{BlockOwnedTwice, TreeDiffers}
 use Rattle.rules.specs.declared.Done.{Done}
-use Rattle.restore.specs.declared.Restored.{Restored}
 use Rattle.rules.specs.Ownership.{largest_k}
 use Rattle.rules.specs.Sound.{apart}
 use Rattle.rules.specs.TreeBytes.{tree_bytes}
@@ -36,7 +35,7 @@ use Rattle.images.proofs.LoadLaws.{load_10, load_18, load_11, load_12, load_ok}
 use Rattle.restore.specs.Promises.{records, Restores}
 use Rattle.restore.specs.LoadSteps.{of_soundness, records_step}
 use Rattle.restore.proofs.Calls.{restores_apart, checked_refuses}
-use Rattle.image.specs.Promises.{Loads}
+use Rattle.image.specs.Promises.{ReadsImage, Loads}
 
 schedule_tree : (cs : List Connection) (s : Schedule) → s ≡ with_connections fresh cs → s.tree.bytes ≡ tree_for cs
 unfolding with_connections
@@ -68,37 +67,43 @@ module _ (bytes : List ℕ) (fits : (i : ℕ) → Fits w8 (get_or bytes i 0)) (n
     unfolding connections_of
     owned_twice_lem q s = load_11 s bytes n f p q
 
-    module _ (x : Restored) (t : Restores bytes (Ok x)) where
-      tree_is : x.schedule.tree.bytes ≡ tree_for (at_handles (records bytes))
-      tree_is = schedule_tree (at_handles (records bytes)) x.schedule (restores_apart bytes x t).0
+    module _ (new : Schedule) (end : ℕ) (t : Restores bytes new (Ok end)) where
+      tree_is : new.tree.bytes ≡ tree_for (at_handles (records bytes))
+      tree_is = schedule_tree (at_handles (records bytes)) new (restores_apart bytes new end t).0
 
       -- The tree's record is the one after the connections'.
-      end_is : x.end ≡ begin (pieces_of bytes) (suc n)
-      end_is = (restores_apart bytes x t).1 ∙ ap (λ (k : ℕ). begin (pieces_of bytes) (suc k)) (connections_long bytes n f b)
+      end_is : end ≡ begin (pieces_of bytes) (suc n)
+      end_is = (restores_apart bytes new end t).1 ∙ ap (λ (k : ℕ). begin (pieces_of bytes) (suc k)) (connections_long bytes n f b)
 
-      pub tree_last : x.end + 4 + tree_bytes ≡ length bytes
+      pub tree_last : end + 4 + tree_bytes ≡ length bytes
       tree_last = ap (λ (k : ℕ). k + 4 + tree_bytes) end_is ∙ tree_place bytes n f b
 
       -- What is compared with the tree's bytes: those of the image from the end on.
       abbrev rest : List ℕ
-      rest = take (length bytes - (x.end + 4)) (drop (x.end + 4) bytes)
+      rest = take (length bytes - (end + 4)) (drop (end + 4) bytes)
 
-      compared : (v : Bool) → pointwise eqb rest x.schedule.tree.bytes ≡ v → same (tree_in (pieces_of bytes)) (tree_for (connections_of (pieces_of bytes))) ≡ v
+      compared : (v : Bool) → pointwise eqb rest new.tree.bytes ≡ v → same (tree_in (pieces_of bytes)) (tree_for (connections_of (pieces_of bytes))) ≡ v
       unfolding connections_of
       compared v d =
-          let size : length bytes - (x.end + 4) ≡ tree_bytes = omega (arith, tree_last) in
+          let size : length bytes - (end + 4) ≡ tree_bytes = omega (arith, tree_last) in
           let stands : rest ≡ tree_in (pieces_of bytes) =
-          ap (λ (k : ℕ). take k (drop (x.end + 4) bytes)) size
+          ap (λ (k : ℕ). take k (drop (end + 4) bytes)) size
           ∙ ap (λ (k : ℕ). take tree_bytes (drop (k + 4) bytes)) end_is
           ∙ tree_stands bytes n f b in
-          ap₂ same (sym stands) (sym tree_is) ∙ sym (same_is rest x.schedule.tree.bytes) ∙ d
+          ap₂ same (sym stands) (sym tree_is) ∙ sym (same_is rest new.tree.bytes) ∙ d
 
-      pub differs : true ≡ not (pointwise eqb rest x.schedule.tree.bytes) → (s : Schedule) → refusing s (number TreeDiffers) ≡ load s bytes
+      pub differs : true ≡ not (pointwise eqb rest new.tree.bytes) → (s : Schedule) → refusing s (number TreeDiffers) ≡ load s bytes
       unfolding connections_of
-      differs d s = load_12 s bytes n f p t.says (compared false (not-true _ (sym d)))
+      differs d s = load_12 s bytes n f p t.says.0 (compared false (not-true _ (sym d)))
 
-      pub accepted : false ≡ not (pointwise eqb rest x.schedule.tree.bytes) → (s : Schedule) → ◌≡◌ {A = Outcome} (record { answer = loaded n; schedule = x.schedule }) (load s bytes)
+      pub accepted : false ≡ not (pointwise eqb rest new.tree.bytes) → (s : Schedule) → ◌≡◌ {A = Outcome} (record { answer = loaded n; schedule = new }) (load s bytes)
       unfolding connections_of
       accepted d s =
-          ap (λ (o : Schedule). record { answer = loaded n; schedule = o }) (restores_apart bytes x t).0
-          ∙ load_ok s bytes n f p t.says (compared true (not-false _ (sym d)))
+          ap (λ (o : Schedule). record { answer = loaded n; schedule = o }) (restores_apart bytes new end t).0
+          ∙ load_ok s bytes n f p t.says.0 (compared true (not-false _ (sym d)))
+
+-- ---- the schedule that is left
+pub loads_read : (s : Schedule) → Good s → (bytes : List ℕ) → ((i : ℕ) → Fits w8 (get_or bytes i 0)) → (new : Schedule) (r : Result ℕ Refusal)
+    → ReadsImage bytes new r → Loads s bytes (record { answer = r; schedule = if is_ok r then new else s })
+loads_read s good bytes fits new (Ok n) p = loads s good bytes fits _ (p s)
+loads_read s good bytes fits new (Err why) p = loads s good bytes fits _ (p s)

@@ -28,13 +28,13 @@ abbrev pub Saves : Schedule → List ℕ → List ℕ → Result ℕ Refusal →
 Saves s before after r = ◌≡◌ {A = Written} (record { answer = of_saving r; buffer = after }) (save s before)
 
 -- What is read of an image, and the schedule that was there before.
-abbrev pub read_over : Schedule → Result (ℕ × Schedule) Refusal → Outcome
-read_over s (Ok r) = record { answer = loaded r.0; schedule = r.1 }
-read_over s (Err r) = refusing s (number r)
+abbrev pub read_over : Schedule → Schedule → Result ℕ Refusal → Outcome
+read_over s new (Ok n) = record { answer = loaded n; schedule = new }
+read_over s new (Err r) = refusing s (number r)
 
 -- It is what the rule gives, whatever schedule was there.
-abbrev pub ReadsImage : List ℕ → Result (ℕ × Schedule) Refusal → Type 0
-ReadsImage bytes r = (s : Schedule) → read_over s r ≡ load s bytes
+abbrev pub ReadsImage : List ℕ → Schedule → Result ℕ Refusal → Type 0
+ReadsImage bytes new r = (s : Schedule) → read_over s new r ≡ load s bytes
 
 -- Load: the whole result, by the sheet's answer and the schedule afterwards, is what the rule gives for the inputs; and the
 -- schedule is good again.

@@ -6,17 +6,19 @@ use frame::framed;
 use restore::{check_records, restore};
 use rules::{Done, HEADER_SIZE, Refusal, Schedule};
 
-// How many connections the bytes are an image of, and their schedule.
-fn read_image(bytes: &[u8]) -> Result<(u8, Schedule), Refusal>
-    ensures { ReadsImage bytes.now result }
+// How many connections the bytes are an image of; their schedule is the lent one.
+fn read_image(bytes: &[u8], new: &mut Schedule) -> Result<u8, Refusal>
+    ensures { ReadsImage bytes.now new.new result }
 {
     let n = framed(bytes)?;
     check_records(bytes, usize::from(n))?;
-    let new = restore(bytes, usize::from(n))?;
-    if bytes[new.end + HEADER_SIZE..] != new.schedule.tree.bytes[..] {
+    let Ok(end) = restore(bytes, usize::from(n), new) else {
+        return Err(Refusal::BlockOwnedTwice);
+    };
+    if bytes[end + HEADER_SIZE..] != new.tree.bytes[..] {
         return Err(Refusal::TreeDiffers);
     }
-    Ok((n, new.schedule))
+    Ok(n)
 }
 
 /// The schedule of an image, in place of the old one, and how many connections it has.
@@ -24,14 +26,11 @@ pub fn load(s: Schedule, bytes: &[u8]) -> Done<Result<u8, Refusal>>
     requires { Good s }
     ensures { Loads s bytes.now result }
 {
-    match read_image(bytes) {
-        Ok((n, schedule)) => Done {
-            answer: Ok(n),
-            schedule,
-        },
-        Err(why) => Done {
-            answer: Err(why),
-            schedule: s,
-        },
+    // a place for the new one: what is restored begins from a fresh schedule
+    let mut new = s;
+    let answer = read_image(bytes, &mut new);
+    Done {
+        answer,
+        schedule: if answer.is_ok() { new } else { s },
     }
 }

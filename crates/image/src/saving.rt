@@ -56,6 +56,7 @@ pub fn save(s: Schedule, buffer: &mut [u8]) -> Result<usize, Refusal>
         return Err(Refusal::BufferShort);
     }
     put_header(buffer, 0, COUNT_SIZE, COUNT_KIND);
+    // n is at most 64; `From` gives neither of a usize
     put_number(buffer, HEADER_SIZE, COUNT_SIZE as usize, n as u32);
     let next = put_connections(buffer, COUNT_RECORD, &s.connections);
     put_tree(buffer, next, &s.tree.bytes);

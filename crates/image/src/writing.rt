@@ -27,6 +27,7 @@ fn put_run(buffer: &mut [u8], at: usize, handle: usize, c: Connection)
     requires { (at + 6 ≤ length buffer.old) × (handle < handles) }
     ensures { buffer.new ≡ sets buffer.old at (little 1 handle ++ little 1 c.k ++ little 2 c.anchor ++ little 2 c.length) }
 {
+    // below 64: nothing is lost
     put_number(buffer, at, 1, handle as u32);
     put_number(buffer, at + 1, 1, u32::from(c.k));
     put_number(buffer, at + 2, 2, c.anchor);

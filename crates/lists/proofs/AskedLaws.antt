@@ -1,5 +1,5 @@
 -- What a line asks for, by the row behind its word; and what it then prints.
-use mathlib.Core.Path.{◌≡◌, refl, sym, ap, ap₂, subst, subst⁻¹, ◌∙◌}
+use mathlib.Core.Path.{◌≡◌, sym, ap, ap₂, subst, subst⁻¹, ◌∙◌}
 use mathlib.Core.Bool.{true}
 use mathlib.Core.Logic.{◌≢◌}
 use mathlib.Core.List.{List, [], ◌∷◌, ◌++◌}
@@ -30,7 +30,7 @@ use Rattle.reports.specs.Promises.{ReportsAll}
 use Rattle.tidy.specs.Promises.{Tidies}
 use Rattle.lists.specs.Lines.{most_entries, longest_row, most_moves, blank_list, Says, AsksReports, AsksTidy, list_printed, reports_printed, tidy_printed, bad_printed}
 use Rattle.answer.specs.Promises.{Counts}
-use Rattle.answer.proofs.Words.{counts}
+use Rattle.answer.proofs.Words.{counts, counts_reported, counts_tidied}
 use Rattle.lists.specs.Promises.{HasAsked, Prints, Makes, PutsDone, Performs}
 use Rattle.lists.specs.Promises.{PerformsReports, PerformsTidy}
 
@@ -138,7 +138,7 @@ pub makes_reports : {out exit : List ℕ} (s : Schedule) (numbers entry list : L
 unfolding reports_printed words_of
 makes_reports {out} {exit} s numbers entry list d n r e p =
     let rule = report_all s (reports_of numbers) in
-    makes_listed reported (text "reported") (λ k. refl) d list out exit (rule (blank_list n)) r
+    makes_listed reported (text "reported") counts_reported d list out exit (rule (blank_list n)) r
     (p.is ∙ ap rule e) p.good
 
 -- ---- `tidy`
@@ -172,5 +172,5 @@ pub makes_tidy : {out exit : List ℕ} (s : Schedule) (entry list : List ℕ)
     → Makes (tidy_printed s n) out exit r
 unfolding tidy_printed words_of
 makes_tidy {out} {exit} s entry list d n r e p =
-    makes_listed tidied (text "tidied") (λ k. refl) d list out exit (tidy s (blank_list n)) r
+    makes_listed tidied (text "tidied") counts_tidied d list out exit (tidy s (blank_list n)) r
     (p.is ∙ ap (tidy s) e) p.good

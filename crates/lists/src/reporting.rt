@@ -39,6 +39,7 @@ pub fn asked_of(line: &[u8], numbers: &mut [u32]) -> Option<Asked>
     if LONGEST_ROW < count {
         return None;
     }
+    // a u32 as a length, which `From` does not give
     let entries = numbers[0] as usize;
     if MOST_ENTRIES < entries {
         return None;

@@ -23,6 +23,7 @@ pub fn tidy_asked(line: &[u8]) -> Option<usize>
 {
     let mut sizes = [0u32; 1];
     let count = read_row(line, AFTER_TIDY, &mut sizes)?;
+    // a u32 as a length, which `From` does not give
     let n = sizes[0] as usize;
     if count == 0 || MOST_MOVES < n {
         return None;

@@ -30,6 +30,7 @@ fn need(estimate: u32) -> u32
 fn target(needed: u32, floor: u16, ceiling: u16) -> u16
     ensures { result ≡ target_rule needed floor ceiling }
 {
+    // at most the ceiling, a u16: nothing is lost
     needed.max(u32::from(floor)).min(u32::from(ceiling)) as u16
 }
 

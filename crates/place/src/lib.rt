@@ -94,6 +94,7 @@ pub fn list_anchors(k: u32, anchors: &mut [u16; ROW_CLASSES])
     requires { k ≤ largest_k }
     ensures { Anchors k anchors.new }
 {
+    // a factor is at most 512: as a place here, and its half as an anchor below, nothing is lost
     let highest = factor(k) as usize >> 1;
     anchors[0] = 0;
     // by index: what is written at 2p and 2p + 1 is read again at a later p

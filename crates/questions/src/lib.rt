@@ -29,6 +29,7 @@ pub fn owner(s: Schedule, block: u32) -> Option<u8>
     }
     for (h, c) in s.connections.iter().enumerate() {
         if owns(*c, block) {
+            // below 64: nothing is lost
             return Some(h as u8);
         }
     }

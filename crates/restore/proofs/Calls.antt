@@ -10,7 +10,7 @@ use lib.Seq.{take-length}
 use Rattle.std.specs.Prelude.{Result, Ok, Err}
 use Rattle.rules.specs.declared.Refusal.{Refusal}
 use Rattle.rules.specs.declared.Refusal.TheVariants.{NumbersUnsound, FactorIllegal}
-use Rattle.restore.specs.declared.Restored.{Restored}
+use Rattle.rules.specs.declared.Schedule.{Schedule}
 use Rattle.calls.proofs.AnswerLaws.{number_injective}
 use Rattle.rules.specs.Ownership.{largest_k}
 use Rattle.rules.specs.Sound.{apart}
@@ -38,12 +38,12 @@ module _ (rs : List Piece) where
   most_clash i l e a c = most_is i (omega arith) a (λ j h m. clash_first rs e j (suc i) (omega arith) m c)
 
 -- Where all are apart, all are restored.
-pub restores_apart : (bytes : List ℕ) (r : Restored) → Restores bytes (Ok r)
-    → (r.schedule ≡ with_connections fresh (at_handles (records bytes))) × (r.end ≡ begin (pieces_of bytes) (suc (length (records bytes))))
-restores_apart bytes r p =
+pub restores_apart : (bytes : List ℕ) (new : Schedule) (end : ℕ) → Restores bytes new (Ok end)
+    → (new ≡ with_connections fresh (at_handles (records bytes))) × (end ≡ begin (pieces_of bytes) (suc (length (records bytes))))
+restores_apart bytes new end p =
     let rs = records bytes in
-    let e : most_apart rs ≡ length rs = most_all rs p.says in
-    (p.is ∙ ap (λ (k : ℕ). with_connections fresh (at_handles (take k rs))) e ∙ ap (λ (xs : List Piece). with_connections fresh (at_handles xs)) (take-length rs), p.ends ∙ ap (λ (k : ℕ). begin (pieces_of bytes) (suc k)) e)
+    let e : most_apart rs ≡ length rs = most_all rs p.says.0 in
+    (p.is ∙ ap (λ (k : ℕ). with_connections fresh (at_handles (take k rs))) e ∙ ap (λ (xs : List Piece). with_connections fresh (at_handles xs)) (take-length rs), p.says.1 ∙ ap (λ (k : ℕ). begin (pieces_of bytes) (suc k)) e)
 
 -- ---- what each case of the check of the records tells
 step_passes : (v d : Bool) → passes ≡ checked v d → (v ≡ true) × (d ≡ false)

@@ -34,12 +34,15 @@ use Rattle.restore.specs.LoadSteps.{of_soundness, checked, records_step}
 use Rattle.restore.specs.Promises.{records}
 
 -- ---- the records of the connections, one after the other
-joined_size : (rs : List Piece) → Each IsConnection rs → length (joined rs) ≡ length rs * 18
+first_size : (rs later : List Piece) (i : ℕ) → i ≤ length rs → Each IsConnection rs
+    → length (joined (take i (rs ++ later))) ≡ i * 18
 unfolding joined
-joined_size [] e = refl
-joined_size (r ∷ rs) e =
-    let later = joined_size rs e.1 in
-    omega (arith, length-append (bytes_of r) (joined rs), record_length r, e.0.size_is, later)
+first_size rs later zero l e = refl
+first_size [] later (suc i) l e = absurd (omega arith)
+first_size (r ∷ rs) later (suc i) l e =
+    let rest = first_size rs later i (omega arith) e.1 in
+    let split = length-append (bytes_of r) (joined (take i (rs ++ later))) in
+    omega (arith, split, record_length r, e.0.size_is, rest)
 
 -- Chunks of as many bytes are the records.
 chunks_are : (rs : List Piece) (k : ℕ) (later : List ℕ) → length rs ≤ k → Each IsConnection rs
@@ -75,19 +78,19 @@ module _ (bytes : List ℕ) (n : ℕ) (f : Framed bytes n) (fits : (i : ℕ) →
   counted : length (bytes_of parts.first) ≡ 6
   counted = omega (arith, record_length parts.first, parts.counts.size_is)
 
-  -- Where the record after them begins, which is within the bytes.
-  pub ends_at : begin (pieces_of bytes) (suc n) ≡ 6 + n * 18
+  -- Where the record after the first i begins; after all that is within the bytes.
+  pub ends_at : (i : ℕ) → i ≤ n → begin (pieces_of bytes) (suc i) ≡ 6 + i * 18
   unfolding joined
-  ends_at =
+  ends_at i l =
       let p = parts in
-      let upto = take_at p.each (p.last ∷ []) n p.number in
-      let e = ap (λ (rs : List Piece). begin rs (suc n)) p.whole in
-      let f = ap (λ (rs : List Piece). length (bytes_of p.first ++ joined rs)) upto in
-      let split = length-append (bytes_of p.first) (joined p.each) in
-      omega (arith, e ∙ f, split, counted, joined_size p.each p.connections, p.number)
+      let last = p.last ∷ [] in
+      let e = ap (λ (rs : List Piece). begin rs (suc i)) p.whole in
+      let split = length-append (bytes_of p.first) (joined (take i (p.each ++ last))) in
+      let size = first_size p.each last i (omega (arith, l, p.number)) p.connections in
+      omega (arith, e, split, counted, size)
 
   pub end_room : 6 + n * 18 ≤ length bytes
-  end_room = omega (arith, ends_at, tree_place bytes n f small)
+  end_room = omega (arith, ends_at n (omega arith), tree_place bytes n f small)
 
   after_count : drop 6 bytes ≡ joined (records bytes) ++ joined (parts.last ∷ [])
   unfolding joined

@@ -9,8 +9,7 @@ use lib.ListN.{length, take, set}
 use lib.Seq.{take-length, take-suc}
 use Rattle.rules.specs.declared.Connection.{Connection}
 use Rattle.rules.specs.declared.Schedule.{Schedule}
-use Rattle.std.specs.Prelude.{Ok}
-use Rattle.restore.specs.declared.Restored.{Restored}
+use Rattle.std.specs.Prelude.{Ok, Err}
 use Rattle.rules.specs.Ownership.{handles, largest_k, taken}
 use Rattle.rules.specs.Classes.{run_free}
 use Rattle.blocks.specs.Taking.{set_run}
@@ -25,7 +24,7 @@ use Rattle.tree.specs.Promises.{IsTree}
 use Rattle.run.specs.Promises.{RunFreeSays, SetsRun}
 use Rattle.restore.specs.Promises.{records, most_apart, Restores}
 use Rattle.rules.specs.Records.{begin, pieces_of}
-use Rattle.restore.proofs.Calls.{most_all}
+use Rattle.restore.proofs.Calls.{most_all, most_clash}
 use Rattle.images.proofs.PieceLaws.{nth}
 
 -- The first i records are taken, and no block belongs to two of them.
@@ -83,21 +82,24 @@ module _ (rs : List Piece) (i : ℕ) (l : i < length rs) (e : records_within lar
         })
 
 -- ---- the answers
-module _ (bytes : List ℕ) (i : ℕ) (cs : List Connection) (tree : List ℕ) (w : FirstTaken (records bytes) i cs tree) where
-  -- Every record is taken.
-  pub restores_all : (r : Restored) → r.schedule.connections ≡ cs → r.schedule.tree.bytes ≡ tree → r.end ≡ begin (pieces_of bytes) (suc i) → i ≡ length (records bytes) → Restores bytes (Ok r)
+module _ (bytes : List ℕ) (i : ℕ) (new : Schedule) (w : FirstTaken (records bytes) i new.connections new.tree.bytes) where
+  restored : most_apart (records bytes) ≡ i → new ≡ with_connections fresh (at_handles (take (most_apart (records bytes)) (records bytes)))
   unfolding with_connections tree_for
-  restores_all r p t at q =
+  restored m = rw m (λ j. record { connections = w.placed j; tree = record { bytes = w.marked j } })
+
+  -- Every record is taken.
+  pub restores_all : (end : ℕ) → end ≡ begin (pieces_of bytes) (suc i) → i ≡ length (records bytes) → Restores bytes new (Ok end)
+  restores_all end at q =
       let all : apart (at_handles (records bytes)) ≡ true = sym (ap (λ (k : ℕ). apart (at_handles (take k (records bytes)))) q ∙ ap (λ (xs : List Piece). apart (at_handles xs)) (take-length (records bytes))) ∙ w.separate in
       let m : most_apart (records bytes) ≡ i = most_all (records bytes) all ∙ sym q in
-      record {
-        says = all;
-        is = rw m (λ j. record { connections = (p ∙ w.placed) j; tree = record { bytes = (t ∙ w.marked) j } });
-        ends = rw m at;
-      }
+      record { is = restored m; says = (all, rw m at) }
 
   -- One clashes with those before it.
-  pub clash_of_all : i < length (records bytes) → records_within largest_k (records bytes) ≡ true → apart (at_handles (take (suc i) (records bytes))) ≡ false → apart (at_handles (records bytes)) ≡ false
-  clash_of_all l e c =
+  pub restores_not : i < length (records bytes) → records_within largest_k (records bytes) ≡ true → apart (at_handles (take (suc i) (records bytes))) ≡ false
+      → (end : ℕ) → end ≡ begin (pieces_of bytes) (suc i) → Restores bytes new (Err end)
+  restores_not l e c end at =
+      let all : apart (at_handles (records bytes)) ≡ false =
       ap (λ (xs : List Piece). apart (at_handles xs)) (sym (take-length (records bytes)))
-      ∙ clash_first (records bytes) e (length (records bytes)) (suc i) l (omega arith) c
+      ∙ clash_first (records bytes) e (length (records bytes)) (suc i) l (omega arith) c in
+      let m = most_clash (records bytes) i l e w.separate c in
+      record { is = restored m; says = (all, rw m at) }

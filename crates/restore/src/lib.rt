@@ -19,13 +19,6 @@ use rules::{
 };
 use run::{factor, fresh, run_free, set_run};
 
-/// The schedule of an image's connections, and where the record after them begins.
-#[derive(Clone, Copy)]
-pub struct Restored {
-    pub schedule: Schedule,
-    pub end: usize,
-}
-
 // The records of the n connections, each with its header.
 fn connection_records(bytes: &[u8], n: usize) -> &[[u8; CONNECTION_RECORD]]
     requires { Framed bytes.now n }
@@ -48,6 +41,7 @@ fn handle_in(payload: &[u8]) -> u8
     requires { length payload.now ≡ connection_size }
     ensures { Reads handle_in payload.now result }
 {
+    // of one byte: nothing is lost
     field(payload, 0, 1) as u8
 }
 
@@ -58,6 +52,7 @@ fn connection_in(payload: &[u8]) -> Connection
 {
     Connection {
         live: true,
+        // of one or two bytes each: nothing is lost
         k: field(payload, 1, 1) as u8,
         length: field(payload, 4, 2) as u16,
         floor: field(payload, 6, 2) as u16,
@@ -105,24 +100,24 @@ pub fn check_records(bytes: &[u8], n: usize) -> Result<(), Refusal>
 }
 
 /// Check 11: the connections of the records with their tree, taken one after the other on an empty
-/// tree; or two of them own one block.
-pub fn restore(bytes: &[u8], n: usize) -> Result<Restored, Refusal>
+/// tree. Answers where the record after them begins; or, as an error, where the first begins that
+/// owns a block of those before it.
+pub fn restore(bytes: &[u8], n: usize, new: &mut Schedule) -> Result<usize, usize>
     requires { Framed bytes.now n × (records_within largest_k (records bytes.now) ≡ true) }
-    ensures { Restores bytes.now result }
+    ensures { Restores bytes.now new.new result }
 {
-    let mut s = fresh();
-    for record in connection_records(bytes, n) {
+    *new = fresh();
+    for (i, record) in connection_records(bytes, n).iter().enumerate() {
         let payload = &record[HEADER_SIZE..];
         let c = connection_in(payload);
         let k = u32::from(c.k);
         let length = u32::from(c.length);
-        if !run_free(&s.tree.bytes, k, c.anchor, length) {
-            return Err(Refusal::BlockOwnedTwice);
+        if !run_free(&new.tree.bytes, k, c.anchor, length) {
+            return Err(COUNT_RECORD + i * CONNECTION_RECORD);
         }
-        set_run(&mut s.tree.bytes, k, c.anchor, 0, length, true);
+        set_run(&mut new.tree.bytes, k, c.anchor, 0, length, true);
         let h = usize::from(handle_in(payload));
-        s.connections[h] = c;
+        new.connections[h] = c;
     }
-    let end = COUNT_RECORD + n * CONNECTION_RECORD;
-    Ok(Restored { schedule: s, end })
+    Ok(COUNT_RECORD + n * CONNECTION_RECORD)
 }

@@ -10,6 +10,7 @@ pub fn live_connection(s: &Schedule, handle: u32) -> Result<Connection, Refusal>
     if LAST_HANDLE < handle {
         return Err(Refusal::HandleAbove63);
     }
+    // a u32 as a place, which `From` does not give
     let c = s.connections[handle as usize];
     if c.live {
         Ok(c)

@@ -40,6 +40,7 @@ fn place(
     if LAST_HANDLE < handle {
         return Err(Refusal::HandleAbove63);
     }
+    // a u32 as a place; the bounds are at most the factor, and that at most 512: nothing is lost
     let h = handle as usize;
     let live = s.connections[h].live;
     let to = plan(&s.tree.bytes, live, smallest, largest, floor, ceiling)?;

@@ -13,6 +13,7 @@ fn end(s: &mut Schedule, handle: u32) -> Result<(), Refusal>
     let c = live_connection(s, handle)?;
     // the run shrinks to no block
     settle(&mut s.tree.bytes, c, 0);
+    // a u32 as a place, which `From` does not give
     s.connections[handle as usize] = nobody();
     Ok(())
 }

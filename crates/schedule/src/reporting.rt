@@ -63,6 +63,7 @@ fn meter(s: &mut Schedule, handle: u32, sample: u32) -> Result<Adjusted, Refusal
     }
     let m = move_meter(c.estimate, c.length, sample, c.floor, c.ceiling);
     let to = settle(&mut s.tree.bytes, c, m.length);
+    // a u32 as a place, which `From` does not give
     s.connections[handle as usize] = with_meter(c, length_of(to), m.estimate);
     Ok(to)
 }

@@ -35,6 +35,7 @@ fn put_saved(out: &mut [u8], s: Schedule, bytes: &mut [u8]) -> usize
     ensures { PutsWithin 4200 out.old 0 (saved_line s (length bytes.old)) out.new result }
 {
     blank(bytes);
+    // an image is below 2,000 bytes: nothing is lost
     let answer = save(s, bytes).map(|size| size as u32);
     let a = put_counted(out, 0, b"saved", answer);
     let b = put_buffer(out, a, bytes);

@@ -24,6 +24,7 @@ pub fn end(rt: &impl Print) {
 
 /// How many bits of a tree are set.
 pub fn bits(tree: &[u8; TREE_BYTES]) -> u64 {
+    // a usize as a u64, which `From` does not give
     (0..NODES).filter(|&n| tree::is_set(tree, n)).count() as u64
 }
 

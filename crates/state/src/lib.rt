@@ -53,6 +53,7 @@ pub fn put_state(out: &mut [u8], connections: &[Connection; HANDLES]) -> usize
     let mut next = 0;
     for (h, c) in connections.iter().enumerate() {
         if c.live {
+            // below 64: nothing is lost
             next = put_connection(out, next, h as u8, *c);
         }
     }

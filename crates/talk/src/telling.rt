@@ -27,6 +27,7 @@ fn put_written(out: &mut [u8], message: Message, bytes: &mut [u8]) -> usize
     ensures { PutsWithin longest_told out.old 0 (written_line message (length bytes.old)) out.new result }
 {
     blank(bytes);
+    // a message is below 20 bytes: nothing is lost
     let answer = write_message(message, bytes).map(|size| size as u32);
     let a = put_counted(out, 0, b"wrote", answer);
     let b = put_buffer(out, a, bytes);

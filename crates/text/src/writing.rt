@@ -26,6 +26,7 @@ pub fn put_decimal(out: &mut [u8], at: usize, n: u32) -> usize
     ensures { Puts out.old at (decimal n) out.new result }
 {
     if n < 10 {
+        // one digit, here and below: nothing is lost
         out[at] = b'0' + n as u8;
         return at + 1;
     }

@@ -33,6 +33,7 @@ fn arrange_depth(
     widen(room, k);
     for (h, c) in s.connections.iter().enumerate() {
         if is_of(*c, k) {
+            // `From` is a call: each answer below would first have to say that it gives the length
             let length = c.length as u32;
             let Some(found) = search_row(room, &anchors, k, length) else {
                 return Err(Refusal::NoAnchorForAll);

@@ -45,6 +45,7 @@ pub fn put_moves(old: &Schedule, new: &Schedule, list: &mut [u32])
     for (h, c) in old.connections.iter().enumerate() {
         let d = new.connections[h];
         if has_moved(*c, d) {
+            // below 64: nothing is lost
             put_move(list, at, h as u32, c.anchor, d.anchor);
             at += MOVE_WIDTH;
         }

@@ -13,6 +13,7 @@ pub fn widen(room: &mut [u16; ROW_CLASSES], k: u32)
     requires { k ≤ largest_k }
     ensures { Widens k room.old room.new }
 {
+    // a u32 as a place, here and below, which `From` does not give
     let half = factor(k) as usize / 2;
     room.copy_within(..half, half);
 }

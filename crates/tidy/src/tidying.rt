@@ -18,6 +18,7 @@ fn tidied(s: &Schedule, moves: &mut [u32]) -> Result<(u8, Schedule), Refusal>
         return Err(Refusal::ListShort);
     }
     put_moves(s, &new, moves);
+    // at most 64 moves: nothing is lost
     Ok((n as u8, new))
 }
 

@@ -40,6 +40,7 @@ fn node(k: u32, r: u32) -> usize
     requires { k ≤ depth }
     ensures { result ≡ 2 ^ k + mirrored k r }
 {
+    // a u32 as a place, which `From` does not give
     ((1u32 << k) | mirror(k, r)) as usize
 }
 

@@ -6,7 +6,7 @@ use Rattle.images.proofs.LoadLaws.{load_9}
 use Rattle.restore.proofs.Calls.{checked_sound}
 use Rattle.image.proofs.Loads.{refused_records, owned_twice_lem, tree_last, differs, accepted}
 use Rattle.image.proofs.loading.read_image.Goals as goal
-use Rattle.image.proofs.loading.read_image.Goals.{In_ok-new}
+use Rattle.image.proofs.loading.read_image.Goals.{In-Ok}
 
 -- `image::read_image` meets its contract: each exit is one check, after those before it.
 pub returns-in_err-n : goal.returns-in_err-n
@@ -27,22 +27,19 @@ pub restore-requires : goal.restore-requires
 restore-requires c =
     rw c.from-2.ensures (c.in_ok-n.ensures, checked_sound _ c.in_ok-check_records.ensures)
 
-pub returns-in_err-new : goal.returns-in_err-new
-returns-in_err-new c s =
-    let q = c.from_residual-in_err-new in
-    let p = err_from_is_err_and q.result q.ensures.1 in
-    let clash = c.in_err-new.ensures in
+pub returns-in_default : goal.returns-in_default
+returns-in_default c s =
     let sound = checked_sound _ c.in_ok-check_records.ensures in
-    rw (p.1, p.2, clash.0) (owned_twice_lem _ c.type_inv.bytes _ c.in_ok-n.ensures sound clash.1 s)
+    owned_twice_lem _ c.type_inv.bytes _ c.in_ok-n.ensures sound c.in_default.ensures.says.0 s
 
 -- where the tree's bytes are
-place : (c : In_ok-new) → c.in_ok-new.new.end + 4 + tree_bytes ≡ length c.args.bytes.now
+place : (c : In-Ok) → c.in-Ok.end + 4 + tree_bytes ≡ length c.args.bytes.now
 place c =
     let sound = checked_sound _ c.in_ok-check_records.ensures in
-    tree_last _ c.type_inv.bytes _ c.in_ok-n.ensures sound c.in_ok-new.new c.in_ok-new.ensures
+    tree_last _ c.type_inv.bytes _ c.in_ok-n.ensures sound _ _ c.in-Ok.ensures
 
-pub overflow_add-new : goal.overflow_add-new
-overflow_add-new c = omega (arith, place c)
+pub overflow_add-end : goal.overflow_add-end
+overflow_add-end c = omega (arith, place c)
 
 pub slice_bounds-ne-count : goal.slice_bounds-ne-count
 slice_bounds-ne-count c = omega (arith, place c)
@@ -53,9 +50,9 @@ slice_bounds-ne-start c = omega (arith, place c)
 pub returns-then-ne : goal.returns-then-ne
 returns-then-ne c =
     let sound = checked_sound _ c.in_ok-check_records.ensures in
-    differs _ c.type_inv.bytes _ c.in_ok-n.ensures sound _ c.in_ok-new.ensures c.if-ne.ensures
+    differs _ c.type_inv.bytes _ c.in_ok-n.ensures sound _ _ c.in-Ok.ensures c.if-ne.ensures
 
 pub returns : goal.returns
 returns c =
     let sound = checked_sound _ c.in_ok-check_records.ensures in
-    accepted _ c.type_inv.bytes _ c.in_ok-n.ensures sound _ c.in_ok-new.ensures c.if-ne.ensures
+    accepted _ c.type_inv.bytes _ c.in_ok-n.ensures sound _ _ c.in-Ok.ensures c.if-ne.ensures

@@ -1,5 +1,5 @@
 use borrow.Author.Rules.{rules}
-use mathlib.Core.Path.{refl, sym, ap}
+use mathlib.Core.Path.{sym, ap}
 use native.Mathlib.Omega.{arith}
 use lib.ListN.{take}
 use lib.Seq.{length-take-le}
@@ -7,7 +7,7 @@ use Rattle.rules.specs.Text.{text}
 use Rattle.rules.specs.Answers.{loaded}
 use Rattle.rules.specs.Words.{words_of}
 use Rattle.text.proofs.Putting.{within_as}
-use Rattle.answer.proofs.Words.{puts_converted}
+use Rattle.answer.proofs.Words.{counts_loaded, puts_converted}
 use Rattle.order.proofs.Asked.{asked, inside}
 use Rattle.script.specs.Performing.{saved_line, performed}
 use Rattle.script.proofs.Acting.{acts_command, acts_fresh, acts_image, acts_save, acts_load}
@@ -44,7 +44,7 @@ returns-in-Some-Load c =
     let w = c.in-Some-Load in
     let d = c.load-done in
     let p =
-    puts_converted loaded (text "loaded") (λ k. refl) d.result.answer c.map.result _
+    puts_converted loaded (text "loaded") counts_loaded d.result.answer c.map.result _
     (λ x r q. search rules) c.map.ensures.cases c.put_counted-a.ensures
     in
     acts_load (take w.n c.order_of.new.bytes) d.result (asked w.ensures w.field-0-is) d.ensures p

@@ -1,11 +1,11 @@
 use borrow.Author.Rules.{rules}
-use mathlib.Core.Path.{refl, ap}
+use mathlib.Core.Path.{ap}
 use native.Mathlib.Omega.{arith}
 use lib.ListN.{length}
 use Rattle.rules.specs.Text.{text}
 use Rattle.rules.specs.Answers.{saved, of_saving}
 use Rattle.rules.specs.Words.{words_of}
-use Rattle.answer.proofs.Words.{puts_converted}
+use Rattle.answer.proofs.Words.{counts_saved, puts_converted}
 use Rattle.hexadecimal.proofs.Printing.{blank_size}
 use Rattle.image.proofs.Calls.{saved_fits}
 use Rattle.script.proofs.Saved.{saved_line_lem, save_length}
@@ -28,7 +28,7 @@ returns c =
     let v = c.save in
     let b = c.put_buffer-b.ensures in
     let p =
-    puts_converted saved (text "saved") (λ k. refl) v.result c.map-answer.result _
+    puts_converted saved (text "saved") counts_saved v.result c.map-answer.result _
     (λ x r q. search rules) c.map-answer.ensures.cases c.put_counted-a.ensures
     in
     let l = save_length s c.blank.new.bytes v.new.buffer v.result v.ensures in

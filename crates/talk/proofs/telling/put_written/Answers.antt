@@ -1,12 +1,11 @@
 use borrow.Author.Rules.{rules}
-use mathlib.Core.Path.{refl}
 use native.Mathlib.Omega.{arith}
 use lib.ListN.{length}
 use Rattle.rules.specs.Text.{text}
 use Rattle.rules.specs.Answers.{wrote}
 use Rattle.rules.specs.Words.{words_of}
 use Rattle.hexadecimal.proofs.Printing.{blank_size}
-use Rattle.answer.proofs.Words.{puts_converted}
+use Rattle.answer.proofs.Words.{counts_wrote, puts_converted}
 use Rattle.hci.proofs.Calls.{wrote_few}
 use Rattle.talk.proofs.Printing.{written_line_lem}
 use Rattle.talk.proofs.telling.put_written.Goals as goal
@@ -27,7 +26,7 @@ returns c =
     let w = c.write_message in
     let b = c.put_buffer-b.ensures in
     let p =
-    puts_converted wrote (text "wrote") (λ k. refl) w.result c.map-answer.result _
+    puts_converted wrote (text "wrote") counts_wrote w.result c.map-answer.result _
     (λ x r q. search rules) c.map-answer.ensures.cases c.put_counted-a.ensures
     in
     record {
