@@ -1,8 +1,12 @@
 //! The words of an answer, written at a place, and its line.
 #![tactic(auto)]
 
-ghost use Rattle.std.specs.Prelude.{◌+◌, ◌≤◌, length, ◌≡◌};
+ghost use Rattle.std.specs.Prelude.{ℕ, List, Ok, ◌+◌, ◌≤◌, length, ◌≡◌};
+ghost use Rattle.std.specs.Borrow.{MutBor};
+ghost use Rattle.std.specs.Result.{MatchResult};
+ghost use Rattle.rules.specs.Refusals.{number};
 ghost use Rattle.rules.specs.Answers.{
+  refused as refused_with,
   placed,
   adjusted,
   message as message_as,
@@ -48,14 +52,30 @@ fn put_placed(out: &mut [u8], at: usize, p: Placed) -> usize
     put_spaced(out, c, u32::from(p.length))
 }
 
+// What is put for an answer: what `put` puts for its value, or the words of its refusal.
+fn put_or_refused<T, F: FnOnce(&mut [u8], T) -> usize>(
+    out: &mut [u8],
+    at: usize,
+    answer: Result<T, Refusal>,
+    put: F,
+) -> usize
+    requires room { at + 13 ≤ length out.old }
+    requires called { (p : MutBor (List ℕ)) (v : T) → answer ≡ Ok v → p.now ≡ out.old → F.pre put p v }
+    ensures { MatchResult answer
+        (λ v. (p q : MutBor (List ℕ)) × (p.now ≡ out.old) × (q.now ≡ out.new) × F.post put p v result q)
+        (λ r. PutsWithin 13 out.old at (words_of (refused_with (number r))) out.new result) }
+{
+    match answer {
+        Ok(v) => put(out, v),
+        Err(r) => put_refused(out, at, r),
+    }
+}
+
 fn put_admission(out: &mut [u8], at: usize, answer: Result<Placed, Refusal>) -> usize
     requires { at + longest_answer ≤ length out.old }
     ensures { PutsWords out.old at (of_admission answer) out.new result }
 {
-    match answer {
-        Ok(p) => put_placed(out, at, p),
-        Err(r) => put_refused(out, at, r),
-    }
+    put_or_refused(out, at, answer, |out, p| put_placed(out, at, p))
 }
 
 #[tactic(auto, using(text::proofs::Putting::within_all), unfolding(rules::specs::Words::words_of))]
@@ -63,10 +83,7 @@ fn put_dropping(out: &mut [u8], at: usize, answer: Result<(), Refusal>) -> usize
     requires { at + longest_answer ≤ length out.old }
     ensures { PutsWords out.old at (of_dropping answer) out.new result }
 {
-    match answer {
-        Ok(()) => put_word(out, at, b"ok"),
-        Err(r) => put_refused(out, at, r),
-    }
+    put_or_refused(out, at, answer, |out, ()| put_word(out, at, b"ok"))
 }
 
 #[tactic(auto, unfolding(rules::specs::Words::words_of))]
@@ -86,10 +103,7 @@ fn put_reporting(out: &mut [u8], at: usize, answer: Result<Adjusted, Refusal>) -
     requires { at + longest_answer ≤ length out.old }
     ensures { PutsWords out.old at (of_reporting answer) out.new result }
 {
-    match answer {
-        Ok(a) => put_adjusted(out, at, a),
-        Err(r) => put_refused(out, at, r),
-    }
+    put_or_refused(out, at, answer, |out, a| put_adjusted(out, at, a))
 }
 
 #[tactic(auto, using(text::proofs::Putting::within_all), unfolding(rules::specs::Words::words_of))]
@@ -109,10 +123,7 @@ pub fn put_counted(out: &mut [u8], at: usize, word: &[u8], answer: Result<u32, R
     requires word { length word.now ≤ longest_count }
     ensures { PutsCounted out.old at word.now answer out.new result }
 {
-    match answer {
-        Ok(n) => put_count(out, at, word, n),
-        Err(r) => put_refused(out, at, r),
-    }
+    put_or_refused(out, at, answer, |out, n| put_count(out, at, word, n))
 }
 
 // The words of a message.
@@ -141,10 +152,12 @@ pub fn put_reading(out: &mut [u8], at: usize, answer: Result<Message, Refusal>) 
     requires { at + longest_message ≤ length out.old }
     ensures { PutsWithin longest_message out.old at (words_of (of_reading answer)) out.new result }
 {
-    match answer {
-        Ok(message) => put_message(out, at, message),
-        Err(r) => put_refused(out, at, r),
-    }
+    put_or_refused(
+        out,
+        at,
+        answer,
+        |out, message| put_message(out, at, message),
+    )
 }
 
 // The words of a command's answer.

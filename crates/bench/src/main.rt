@@ -168,6 +168,7 @@ fn saved(rt: &impl Print, s: Schedule, buffer: &mut [u8])
             ensures { IfOk result (λ n. n < 2 ^ 32) }
         { save(s, buffer) },
     );
+    // an image is below 2,000 bytes: nothing is lost
     tell_count(rt, b"saved", answer.map(|size| size as u32));
 }
 
@@ -195,6 +196,7 @@ fn wrote(rt: &impl Print, message: Message, buffer: &mut [u8]) {
             ensures { IfOk result (λ n. n < 2 ^ 32) }
         { write_message(message, buffer) },
     );
+    // a message is below 20 bytes: nothing is lost
     tell_count(rt, b"wrote", answer.map(|size| size as u32));
 }
 
@@ -247,6 +249,7 @@ fn perform(rt: &impl Print, s: Schedule, line: &[u8], bytes: &mut [u8]) -> Sched
             s
         }
         Some(Order::SaveInto(size)) => {
+            // a u32 as a length, which `From` does not give
             saved(rt, s, &mut bytes[..size as usize]);
             s
         }

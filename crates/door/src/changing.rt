@@ -59,7 +59,7 @@ pub extern "C" fn beak_reported(s: Schedule, handle: u32, sample: u32) -> Called
 }
 
 /// The reports that numbers say: handle, sample, handle, sample.
-/// A slice of reports would be one more proof by hand.
+/// The clause reads them by `reports_of`; beak.h lends an array of samples by `&reports->handle`.
 #[unsafe(no_mangle)]
 pub extern "C" fn beak_reported_all(s: Schedule, numbers: &[u32], answers: &mut [u32]) -> Called
     requires { Good s }

@@ -67,6 +67,7 @@ pub fn framed(bytes: &[u8]) -> Result<u8, Refusal>
     ensures { Frames bytes.now (of_frame result) }
 {
     let start = pass(bytes, 0, COUNT_KIND, COUNT_SIZE)?;
+    // COUNT_SIZE (2) and HANDLES (64) are constants: the compiler computes their casts
     let n = codec::number(bytes, HEADER_SIZE, COUNT_SIZE as usize);
     if n > HANDLES as u32 {
         return Err(Refusal::RecordsWrong);

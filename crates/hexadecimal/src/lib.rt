@@ -23,6 +23,7 @@ pub fn put_hex(out: &mut [u8], at: usize, bytes: &[u8]) -> usize
     ensures { Puts out.old at (hex bytes.now) out.new result }
 {
     let mut next = at;
+    // by index: once an `iter_mut` is over, a proof knows the slice's length alone
     for &b in bytes {
         out[next] = hex_digit(b / 16);
         out[next + 1] = hex_digit(b % 16);
@@ -51,6 +52,7 @@ pub fn read_hex(line: &[u8], at: usize, bytes: &mut [u8]) -> Option<usize>
     if pairs.is_empty() || !rest.is_empty() {
         return None;
     }
+    // by index, as above
     for (i, &[high, low]) in pairs.iter().enumerate() {
         bytes[i] = nibble_of(high)? * 16 + nibble_of(low)?;
     }

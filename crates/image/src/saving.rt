@@ -26,6 +26,7 @@ fn put_connections(buffer: &mut [u8], at: usize, connections: &[Connection; HAND
     requires { at + length (joined (connection_pieces 0 connections.now)) ≤ length buffer.old }
     ensures { PutsConnections at connections.now buffer.old buffer.new result }
 {
+    // only a live one has a record: its place is told by how many came before, not by its handle
     let mut next = at;
     for (h, c) in connections.iter().enumerate() {
         if c.live {

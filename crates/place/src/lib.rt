@@ -113,6 +113,7 @@ fn stretches<F: Fn(usize) -> bool>(taken: F, k: u32, room: &mut [u16; ROW_CLASSE
     ensures { StretchesBy k (F.post taken) room.new }
 {
     let mut free: u16 = 0;
+    // a factor is at most 512: as a place nothing is lost
     for c in (0..factor(k) as usize).rev() {
         free = if taken(c) { 0 } else { free + 1 };
         room[c] = free;
@@ -130,6 +131,7 @@ fn measure(
     requires { (k ≤ largest_k) × Anchors k anchors.now }
     ensures { Measures k tree.now room.new }
 {
+    // a factor is at most 512: as a place nothing is lost
     let f = factor(k) as usize;
     stretches(|c| tree::is_set(tree, f + usize::from(anchors[c])), k, room);
 }
@@ -152,6 +154,7 @@ fn search(
     requires { (k ≤ largest_k) × (1 ≤ floor) × (floor ≤ 2 ^ k) × Anchors k anchors.now × IsRoom k room.now }
     ensures { Searches k floor room.now result }
 {
+    // a factor is at most 512, and a class below it: as places nothing is lost
     let f = factor(k) as usize;
     'nodes: for &a in &anchors[..f] {
         let mut j = u32::from(room[usize::from(a)]);
@@ -208,6 +211,7 @@ fn first_by_blocks(tree: &[u8; TREE_BYTES], k: u32, floor: u32) -> Option<u16>
     ensures { FindsFirst k floor tree.now result }
 {
     let f = factor(k);
+    // a node is below 1,024, as a place, and an anchor below 512, as a u16: nothing is lost
     'nodes: for p in 0..f {
         if tree::is_set(tree, (f + p) as usize) {
             continue 'nodes;

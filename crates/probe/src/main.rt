@@ -11,6 +11,7 @@ use order::Performed;
 use rules::Schedule;
 use schedule::fresh;
 use script::perform;
+use std::io;
 use talk::perform_message;
 use text::{opens, split_line};
 
@@ -34,9 +35,8 @@ fn perform_line(s: Schedule, line: &[u8], bytes: &mut [u8], out: &mut [u8]) -> P
     }
 }
 
-// Performs each line and writes what it prints; a tail is a bad line. False where the output cannot
-// be written.
-fn perform_all(rt: &impl Print, script: &[u8]) -> bool
+// Performs each line and writes what it prints; a tail is a bad line.
+fn perform_all(rt: &impl Print, script: &[u8]) -> io::Result<()>
     requires { length script.now ≤ 65536 }
 {
     let mut bytes = [0u8; 32768];
@@ -45,13 +45,14 @@ fn perform_all(rt: &impl Print, script: &[u8]) -> bool
     let mut rest = script;
     while let Some((line, later)) = split_line(rest) {
         let done = perform_line(s, line, &mut bytes, &mut out);
-        if rt.write_all(&out[..done.count]).is_err() {
-            return false;
-        }
+        rt.write_all(&out[..done.count])?;
         s = done.schedule;
         rest = later;
     }
-    rest.is_empty() || rt.write_all(b"bad\n").is_ok()
+    if !rest.is_empty() {
+        rt.write_all(b"bad\n")?;
+    }
+    Ok(())
 }
 
 fn main(rt: HostRuntime) {
@@ -65,7 +66,7 @@ fn main(rt: HostRuntime) {
         let _ = rt.write_all(b"long\n");
         return;
     }
-    if !perform_all(&rt, &buffer[..n]) {
+    if perform_all(&rt, &buffer[..n]).is_err() {
         let _ = eprintln!(rt; "probe: standard output cannot be written");
     }
 }

@@ -23,17 +23,15 @@ pub fn owner(s: Schedule, block: u32) -> Option<u8>
     requires { Good s }
     ensures { OwnerSays s block result }
 {
-    // the block's leaf says idle at once
+    // the block's leaf says idle at once; LIST_BLOCKS is a constant, whose cast is computed
     if tree::is_free(&s.tree.bytes, DEPTH, block % LIST_BLOCKS as u32) {
         return None;
     }
-    for (h, c) in s.connections.iter().enumerate() {
-        if owns(*c, block) {
-            // below 64: nothing is lost
-            return Some(h as u8);
-        }
-    }
-    None
+    // below 64: nothing is lost
+    s.connections
+        .iter()
+        .position(|c| owns(*c, block))
+        .map(|h| h as u8)
 }
 
 /// Slots from the start of the block to the connection's next anchor.

@@ -16,6 +16,7 @@ fn answer_of(reports: usize, entries: usize) -> Result<u8, Refusal>
     if entries < reports {
         return Err(Refusal::ListShort);
     }
+    // at most the most reports: nothing is lost
     Ok(reports as u8)
 }
 
@@ -27,6 +28,7 @@ pub fn report_all(s: Schedule, reports: &[Report], answers: &mut [u32]) -> Done<
     let answer = answer_of(reports.len(), answers.len());
     let mut left = s;
     if answer.is_ok() {
+        // by index: once an `iter_mut` is over, a proof knows the slice's length alone
         for (i, r) in reports.iter().enumerate() {
             let done = report(left, r.handle, r.sample);
             left = done.schedule;

@@ -29,6 +29,7 @@ fn gather(numbers: &[u32], n: usize) -> [Report; GATHERED]
         sample: 0,
     }; GATHERED];
     let (pairs, _) = numbers.as_chunks::<2>();
+    // by index: once an `iter_mut` is over, a proof knows the slice's length alone
     for (i, &[handle, sample]) in pairs[..n].iter().enumerate() {
         reports[i] = Report { handle, sample };
     }

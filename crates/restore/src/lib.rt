@@ -88,6 +88,7 @@ pub fn check_records(bytes: &[u8], n: usize) -> Result<(), Refusal>
         let payload = &record[HEADER_SIZE..];
         let h = handle_in(payload);
         let c = connection_in(payload);
+        // HANDLES is a constant, 64: the compiler computes its cast
         if h >= HANDLES as u8 || h < least || !numbers_within(c) {
             return Err(Refusal::NumbersUnsound);
         }

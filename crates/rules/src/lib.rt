@@ -121,7 +121,7 @@ pub struct Tree {
 
 /// One gateway's schedule: the connection of each handle, and the tree of the blocks that they take.
 /// That it is good is a clause of each call and no ghost field: it goes to C by value, and the
-/// definitions speak of schedules that are not good.
+/// definitions speak of schedules that are not good: `sound` (specs/Sound) is a test of any one.
 #[repr(C)]
 #[derive(Clone, Copy)]
 pub struct Schedule {

@@ -23,6 +23,7 @@ pub fn nobody() -> Connection
 pub fn fresh() -> Schedule
     ensures { Starts result }
 {
+    // not by a derived `Default`: that the tree's zeros are a tree is the promise of `empty`
     let connections = [nobody(); HANDLES];
     let bytes = tree::empty();
     let tree = Tree { bytes };
@@ -64,6 +65,7 @@ pub fn run_free(tree: &[u8; TREE_BYTES], k: u32, anchor: u32, length: u32) -> bo
 }
 
 /// Takes the classes of a run, from its block `from` to before its block `to`, or gives them back.
+// `taken` is the word `bit` of the promise `SetsRun`: one loop and one invariant for both.
 pub fn set_run(tree: &mut [u8; TREE_BYTES], k: u32, anchor: u32, from: u32, to: u32, taken: bool)
     requires { (k ≤ depth) × (anchor < 2 ^ k) × (from ≤ to) × (to ≤ 2 ^ k) × IsTree tree.old }
     ensures { SetsRun k anchor from to taken tree.old tree.new }

@@ -5,6 +5,7 @@ ghost use Rattle.rules.specs.Good.{Good};
 ghost use Rattle.rules.specs.Admit.{new_connection};
 ghost use Rattle.schedule.specs.Promises.{Admits};
 
+use crate::done;
 use place::plan;
 use rules::{BLOCK_MICROS, Connection, Done, GUARD_MICROS, LAST_HANDLE, Placed, Refusal, Schedule};
 use run::{factor, set_run};
@@ -57,7 +58,7 @@ fn place(
 
 /// Admits a connection: handle, smallest and largest interval in slots, floor and ceiling in blocks.
 pub fn admit(
-    mut s: Schedule,
+    s: Schedule,
     handle: u32,
     smallest: u32,
     largest: u32,
@@ -67,9 +68,5 @@ pub fn admit(
     requires { Good s }
     ensures { Admits s handle smallest largest floor ceiling result }
 {
-    let answer = place(&mut s, handle, smallest, largest, floor, ceiling);
-    Done {
-        answer,
-        schedule: s,
-    }
+    done(s, |s| place(s, handle, smallest, largest, floor, ceiling))
 }

@@ -2,6 +2,7 @@
 ghost use Rattle.rules.specs.Good.{Good};
 ghost use Rattle.schedule.specs.Promises.{Drops};
 
+use crate::done;
 use crate::reporting::settle;
 use rules::{Done, Refusal, Schedule};
 use run::{live_connection, nobody};
@@ -19,13 +20,9 @@ fn end(s: &mut Schedule, handle: u32) -> Result<(), Refusal>
 }
 
 /// Drops a connection: its blocks are free at once.
-pub fn drop(mut s: Schedule, handle: u32) -> Done<Result<(), Refusal>>
+pub fn drop(s: Schedule, handle: u32) -> Done<Result<(), Refusal>>
     requires { Good s }
     ensures { Drops s handle result }
 {
-    let answer = end(&mut s, handle);
-    Done {
-        answer,
-        schedule: s,
-    }
+    done(s, |s| end(s, handle))
 }

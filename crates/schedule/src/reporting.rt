@@ -6,6 +6,7 @@ ghost use Rattle.rules.specs.Sound.{Numbers};
 ghost use Rattle.tree.specs.Promises.{IsTree};
 ghost use Rattle.schedule.specs.Promises.{length_in, Settles, Reports};
 
+use crate::done;
 use meter::move_meter;
 use rules::{Adjusted, BLOCK_MICROS, Connection, Done, Refusal, Schedule, TREE_BYTES};
 use run::{class_at, live_connection, set_run};
@@ -69,13 +70,9 @@ fn meter(s: &mut Schedule, handle: u32, sample: u32) -> Result<Adjusted, Refusal
 }
 
 /// Reports the µs that a connection used in its last run.
-pub fn report(mut s: Schedule, handle: u32, sample: u32) -> Done<Result<Adjusted, Refusal>>
+pub fn report(s: Schedule, handle: u32, sample: u32) -> Done<Result<Adjusted, Refusal>>
     requires { Good s }
     ensures { Reports s handle sample result }
 {
-    let answer = meter(&mut s, handle, sample);
-    Done {
-        answer,
-        schedule: s,
-    }
+    done(s, |s| meter(s, handle, sample))
 }

@@ -68,6 +68,7 @@ pub fn perform(s: Schedule, line: &[u8], bytes: &mut [u8], out: &mut [u8]) -> Pe
             Performed { schedule: s, count }
         }
         Some(Order::SaveInto(size)) => {
+            // a u32 as a length, which `From` does not give
             let count = put_saved(out, s, &mut bytes[..size as usize]);
             Performed { schedule: s, count }
         }

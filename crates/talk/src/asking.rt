@@ -90,11 +90,11 @@ fn change_of(line: &[u8]) -> Asked
         return Asked::Bad;
     };
     // a status has one byte
-    if 255 < n[1] {
+    let Ok(status) = u8::try_from(n[1]) else {
         return Asked::Bad;
-    }
+    };
     let e = SubrateChange {
-        status: n[1] as u8,
+        status,
         handle: n[2],
         factor: n[3],
         latency: n[4],

@@ -66,6 +66,7 @@ pub fn put_count(out: &mut [u8], at: usize, word: &[u8], n: u32) -> usize
 }
 
 /// The table's number of a refusal, row by row as the sheet has it: its wrong versions change a row.
+// No `as u32` of the enum: the wrong versions not_live_is_2 and tree_is_11 each change a row here.
 pub fn refusal_number(r: Refusal) -> u32
     ensures { result ≡ number r }
 {

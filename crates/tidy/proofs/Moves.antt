@@ -1,21 +1,22 @@
 -- The moves of the first h handles, counted and written.
 use mathlib.Core.Path.{◌≡◌, refl, sym, ap, ◌∙◌}
-use mathlib.Core.Bool.{true, false}
-use mathlib.Core.List.{List, [], ◌∷◌, ◌++◌, map, map-append, append_assoc}
-use Prim.Native.Nat.{ℕ, ◌+◌, ◌*◌, ◌<◌, ◌≤◌}
+use mathlib.Core.Bool.{Bool, true, false, ◌&&◌, cond}
+use mathlib.Core.List.{List, [], ◌∷◌, ◌++◌, map, map-append, append_assoc, append-nil}
+use Prim.Native.Nat.{ℕ, zero, suc, ◌+◌, ◌*◌, ◌<◌, ◌≤◌}
 use native.Mathlib.Numerals.{add-one}
 use native.Mathlib.Omega.{arith}
 use lib.ListN.{length, length-append, length-map}
 use lib.Seq.{sets}
+use Rattle.std.specs.List.{filter, zip}
 use Rattle.rules.specs.declared.Connection.{Connection}
-use Rattle.rules.specs.Below.{those}
+use Rattle.rules.specs.Below.{in_turn, those}
 use Rattle.rules.specs.Ownership.{handles}
 use Rattle.rules.specs.Lent.{over}
-use Rattle.rules.specs.Tidy.{Move, has_moved, movers, move_of, moves, move_width, entry_of, entries}
+use Rattle.rules.specs.Tidy.{Move, differs, has_moved, movers, move_of, moves, move_width, entry_of, entries}
 use Rattle.basics.proofs.BelowLaws.{those_more, those_same, those_first, those_most}
 use Rattle.basics.proofs.LentLaws.{over_more, over_length}
 use Rattle.calls.proofs.MoveLaws.{entries_length}
-use Rattle.tidy.specs.Promises.{PutsMove}
+use Rattle.tidy.specs.Promises.{Counts, PutsMove}
 
 -- The first of those that have moved,
 abbrev pub first_movers : List Connection → List Connection → ℕ → List ℕ
@@ -24,6 +25,44 @@ first_movers old new h = those h (has_moved old new)
 -- and their numbers in the list.
 abbrev pub first_entries : List Connection → List Connection → ℕ → List ℕ
 first_entries old new h = entries (map (move_of old new) (first_movers old new h))
+
+-- ---- how many have moved
+-- Whether a pair of connections has other anchors.
+abbrev pub pair_moved : Connection × Connection → Bool
+pair_moved p = p.0.live && differs p.0 p.1
+
+-- The first of the numbers, then those after it.
+those_from_first : (n : ℕ) (f : ℕ → Bool) → length (those (suc n) f) ≡ cond (f 0) 1 0 + length (those n (λ i. f (suc i)))
+unfolding those in_turn
+those_from_first zero f = go (f 0)
+  where
+    go : (v : Bool) → length {A = ℕ} (cond v (0 ∷ []) []) ≡ cond v 1 0 + 0
+    go true = refl
+    go false = refl
+those_from_first (suc n) f = go (f (suc n)) (those_from_first n f)
+  where
+    go : (v : Bool) → length (those (suc n) f) ≡ cond (f 0) 1 0 + length (those n (λ i. f (suc i)))
+        → length (those (suc n) f ++ cond v (suc n ∷ []) []) ≡ cond (f 0) 1 0 + length (those n (λ i. f (suc i)) ++ cond v (n ∷ []) [])
+    go true e = omega (arith, e, length-append (those (suc n) f) (suc n ∷ []), length-append (those n (λ i. f (suc i))) (n ∷ []))
+    go false e = rw (append-nil (those (suc n) f), append-nil (those n (λ i. f (suc i)))) e
+
+-- As many pairs as handles.
+pairs_moved : (old new : List Connection) → length new ≡ length old → length (filter pair_moved (zip old new)) ≡ length (those (length old) (has_moved old new))
+unfolding those in_turn
+pairs_moved [] new e = refl
+pairs_moved (c ∷ cs) [] e = absurd (omega arith)
+pairs_moved (c ∷ cs) (d ∷ ds) e = go (pair_moved (c, d)) (pairs_moved cs ds (omega arith)) ∙ sym (those_from_first (length cs) (has_moved (c ∷ cs) (d ∷ ds)))
+  where
+    go : (v : Bool) → length (filter pair_moved (zip cs ds)) ≡ length (those (length cs) (has_moved cs ds))
+        → length (cond v ((c, d) ∷ filter pair_moved (zip cs ds)) (filter pair_moved (zip cs ds))) ≡ cond v 1 0 + length (those (length cs) (has_moved cs ds))
+    go true later = omega arith
+    go false later = omega arith
+
+pub counted : (old new : List Connection) {n : ℕ} → length old ≡ handles → length new ≡ handles → n ≡ length (filter pair_moved (zip old new)) → Counts old new n
+unfolding movers
+counted old new {n} p q e =
+    let is : n ≡ length (those handles (has_moved old new)) = rw p at (e ∙ pairs_moved old new (q ∙ sym p)) in
+    record { is = is; few = omega (arith, is, those_most handles (has_moved old new)) }
 
 -- ---- how many numbers there are
 entries_append : (xs ys : List Move) → entries (xs ++ ys) ≡ entries xs ++ entries ys
@@ -56,12 +95,6 @@ module _ (old new : List Connection) (h : ℕ) where
   movers_kept : has_moved old new h ≡ false → first_movers old new (h + 1) ≡ first_movers old new h
   movers_kept e = rw (add-one h) (those_same h (has_moved old new) e)
 
-  pub count_moved : has_moved old new h ≡ true → length (first_movers old new h) + 1 ≡ length (first_movers old new (h + 1))
-  count_moved e = omega (arith, ap (λ (x : List ℕ). length x) (movers_moved e), length-append (first_movers old new h) (h ∷ []))
-
-  pub count_kept : has_moved old new h ≡ false → length (first_movers old new h) ≡ length (first_movers old new (h + 1))
-  count_kept e = sym (ap (λ (x : List ℕ). length x) (movers_kept e))
-
   pub entries_kept : has_moved old new h ≡ false → first_entries old new h ≡ first_entries old new (h + 1)
   entries_kept e = sym (ap (λ (x : List ℕ). entries (map (move_of old new) x)) (movers_kept e))
 
@@ -74,10 +107,6 @@ module _ (old new : List Connection) (h : ℕ) where
       ∙ entries_append (map (move_of old new) (first_movers old new h)) (move_of old new h ∷ []))
 
 -- All of them.
-pub counted : (old new : List Connection) {n : ℕ} → n ≡ length (first_movers old new handles) → n ≡ length (movers old new)
-unfolding movers
-counted old new e = e
-
 pub written : (old new : List Connection) {list : List ℕ} (entry : List ℕ) → list ≡ over (first_entries old new handles) entry → list ≡ over (entries (moves old new)) entry
 unfolding moves movers
 written old new entry e = e

@@ -14,7 +14,7 @@ use run::{fresh, set_run};
 fn is_of(c: Connection, k: u32) -> bool
     ensures { result ≡ (c.live && eqb c.k k) }
 {
-    c.live && c.k as u32 == k
+    c.live && u32::from(c.k) == k
 }
 
 // The connections of one depth, by rising handle, beside those of every smaller factor; or one of
@@ -33,12 +33,9 @@ fn arrange_depth(
     widen(room, k);
     for (h, c) in s.connections.iter().enumerate() {
         if is_of(*c, k) {
-            // `From` is a call: each answer below would first have to say that it gives the length
-            let length = c.length as u32;
-            let Some(found) = search_row(room, &anchors, k, length) else {
-                return Err(Refusal::NoAnchorForAll);
-            };
-            let anchor = found as u32;
+            let length = u32::from(c.length);
+            let found = search_row(room, &anchors, k, length).ok_or(Refusal::NoAnchorForAll)?;
+            let anchor = u32::from(found);
             take_run(room, k, anchor, length);
             set_run(&mut new.tree.bytes, k, anchor, 0, length, true);
             new.connections[h] = Connection { anchor, ..*c };

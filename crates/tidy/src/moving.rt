@@ -17,13 +17,11 @@ fn has_moved(old: Connection, new: Connection) -> bool
 pub fn count_moves(old: &Schedule, new: &Schedule) -> usize
     ensures { Counts old.now.connections new.now.connections result }
 {
-    let mut n: usize = 0;
-    for (h, c) in old.connections.iter().enumerate() {
-        if has_moved(*c, new.connections[h]) {
-            n += 1;
-        }
-    }
-    n
+    old.connections
+        .iter()
+        .zip(&new.connections)
+        .filter(|(c, d)| has_moved(**c, **d))
+        .count()
 }
 
 // An entry of the list: the handle, the old anchor and the new one.
@@ -41,6 +39,7 @@ pub fn put_moves(old: &Schedule, new: &Schedule, list: &mut [u32])
     requires { move_width * length (movers old.now.connections new.now.connections) ≤ length list.old }
     ensures { list.new ≡ over (entries (moves_of old.now.connections new.now.connections)) list.old }
 {
+    // tried over `as_chunks_mut`: the invariant is then given the chunks left, and no `list` to name
     let mut at: usize = 0;
     for (h, c) in old.connections.iter().enumerate() {
         let d = new.connections[h];

@@ -2,6 +2,7 @@
 //!
 //! The functions take the bytes, and are no methods of `Tree`: that stands in `rules`, below this
 //! crate, and goes to C by value inside a `Schedule`, so that no ghost can say that it is a tree.
+//! Half-way through a class the bytes are no tree: `WritesBelow` and `MissingOver` speak of those.
 #![tactic(auto)]
 
 ghost use Rattle.std.specs.Prelude.{◌≡◌, ◌+◌, ◌*◌, ◌<◌, ◌≤◌, ◌^◌};

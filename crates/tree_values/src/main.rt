@@ -1,7 +1,7 @@
 //! Runs the rule sheet's values of the tree that are not marked P, and the mirror beside a walk, and prints what it finds.
 #![tactic(auto)]
 
-ghost use Rattle.std.specs.Prelude.{◌<◌, ◌≤◌, ◌^◌};
+ghost use Rattle.std.specs.Prelude.{◌<◌, ◌≤◌, ◌^◌, ℕ};
 ghost use Rattle.rules.specs.Time.{list_blocks};
 ghost use Rattle.rules.specs.Classes.{depth};
 
@@ -60,36 +60,21 @@ fn walked(k: u32, p: u32) -> u32 {
     mirrored
 }
 
-// Whether p is mirrored as the walk does it, or, mirrored twice, comes back.
-fn agrees(k: u32, p: u32, twice: bool) -> bool
-    requires { k ≤ depth }
-{
-    let once = tree::mirror(k, p);
-    if twice {
-        return tree::mirror(k, once) == p;
-    }
-    once == walked(k, p)
-}
-
-// How many numbers of k bits do so.
-fn agreeing(k: u32, twice: bool) -> u64
-    requires { k ≤ depth }
+// How many numbers of k bits agree.
+fn agreeing<F: Fn(u32) -> bool>(k: u32, agrees: F) -> u64
+    requires deep { k ≤ depth }
+    requires asked { (p : ℕ) → F.pre agrees p }
     ensures { result ≤ list_blocks }
 {
-    let mut count: u64 = 0;
-    for p in 0..1u32 << k {
-        if agrees(k, p, twice) {
-            count += 1;
-        }
-    }
-    count
+    // a usize as a u64, which `From` does not give
+    (0..1u32 << k).filter(|&p| agrees(p)).count() as u64
 }
 
 // How many of every width of the tree are mirrored as the walk does it.
 fn all_as_walked() -> u64 {
     let mut count: u64 = 0;
     for k in 0..=DEPTH {
-        count += agreeing(k, false);
+        count += agreeing(k, |p| tree::mirror(k, p) == walked(k, p));
     }
     count
 }
@@ -100,7 +85,10 @@ fn say_agreeing(rt: &impl Print) {
     show::word(rt, b" of 1023");
     show::end(rt);
     show::word(rt, b"back when mirrored twice, k 9:");
-    show::number(rt, agreeing(9, true));
+    show::number(
+        rt,
+        agreeing(9, |p| tree::mirror(9, tree::mirror(9, p)) == p),
+    );
     show::word(rt, b" of 512");
     show::end(rt);
 }
@@ -108,11 +96,11 @@ fn say_agreeing(rt: &impl Print) {
 // Of p only the k lowest bits count.
 fn say_mirrored(rt: &impl Print, p: u32) {
     show::word(rt, b"mirrored at k 0, 3 and 9,");
-    show::number(rt, p as u64);
+    show::number(rt, u64::from(p));
     show::word(rt, b":");
-    show::number(rt, tree::mirror(0, p) as u64);
-    show::number(rt, tree::mirror(3, p) as u64);
-    show::number(rt, tree::mirror(9, p) as u64);
+    show::number(rt, u64::from(tree::mirror(0, p)));
+    show::number(rt, u64::from(tree::mirror(3, p)));
+    show::number(rt, u64::from(tree::mirror(9, p)));
     show::end(rt);
 }
 

@@ -1,13 +1,23 @@
 use borrow.Author.Rules.{rules}
-use mathlib.Core.Path.{sym, ap, ◌∙◌}
-use mathlib.Core.Logic.{by_cases}
-use Prim.Native.Nat.{ℕ}
-use native.Mathlib.Decide.{ℕ_discrete}
+use borrow.Author.Tests.{tests}
+use mathlib.Core.Path.{◌≡◌, sym, ◌∙◌, subst⁻¹}
+use mathlib.Core.Bool.{true, false}
+use Prim.Native.Nat.{ℕ, ◌<◌}
 use native.Mathlib.Omega.{arith}
-use Rattle.rules.specs.Ownership.{owns, taken}
-use Rattle.rules.specs.Handles.{connection}
+use lib.ListN.{length}
+use Rattle.std.specs.Prelude.{Option, Some, None}
+use Rattle.std.specs.List.{AllWithin, HoldsAt}
+use Rattle.std.specs.Option.{MatchOption, IsSomeAnd}
+use Rattle.std.proofs.lemmas.Iterator.{YieldsList-from_slice, IsFirst-from_position}
+use Rattle.std.proofs.lemmas.Iterator.Adapters.{serves_from_places}
+use Rattle.std.proofs.lemmas.List.{get_or_default}
+use Rattle.rules.specs.Ownership.{owns, taken, handles, nobody}
+use Rattle.rules.specs.Sound.{Numbers}
+use Rattle.rules.specs.declared.Connection.{Connection}
+use Rattle.rules.specs.declared.Schedule.{Schedule}
 use Rattle.blocks.proofs.ScheduleLaws.{good_sound, good_tree}
 use Rattle.calls.proofs.QuestionLaws.{owner_found, owner_none, owner_leaf}
+use Rattle.questions.specs.Promises.{OwnerSays}
 use Rattle.questions.proofs.owner.Goals as goal
 
 pub is_free-requires : goal.is_free-requires
@@ -18,29 +28,31 @@ returns-then-is_free c =
     sym (owner_leaf c.args.s c.requires c.args.block
     (sym (c.is_free.ensures (taken c.args.s.connections) (good_tree c.args.s c.requires)) ∙ c.if-is_free.true))
 
-pub loop-h-init : goal.loop-h-init
-loop-h-init c j l = absurd (omega arith)
+pub position-requires-clause-callable : goal.position-requires-clause-callable
+position-requires-clause-callable c =
+    let cs = c.args.s.connections in
+    serves_from_places (YieldsList-from_slice cs cc) (λ x q k. search (rules, tests))
+    (λ x k l e.
+    let numbers : x.now.live ≡ true → Numbers x.now =
+    subst⁻¹ (λ (d : Connection). d.live ≡ true → Numbers d) (e ∙ get_or_default cs k x.now nobody l) ((good_sound c.args.s c.requires).numbers k) in
+    search (rules, numbers))
 
-pub owns-requires : goal.owns-requires
-owns-requires c = (good_sound c.args.s c.requires).numbers c.loop-h.h
-
-pub returns-then-owns : goal.returns-then-owns
-returns-then-owns c =
-    let l = c.loop-h in
-    let a = c.args in
-    sym (owner_found a.s a.block l.h (omega arith) (sym c.owns.ensures ∙ c.if-owns.true) l.invariant)
-
-pub loop-h-preserved : goal.loop-h-preserved
-loop-h-preserved c =
-    let l = c.loop-h in
-    let a = c.args in
-    λ j m.
-    by_cases (ℕ_discrete j l.h)
-    (λ q. ap (λ (x : ℕ). owns (connection a.s x) a.block) q ∙ sym c.owns.ensures ∙ c.if-owns.false)
-    (λ q. l.invariant j (omega arith))
+-- The first that owns it, as a handle.
+said : (s : Schedule) (b : ℕ) → length s.connections ≡ handles → (o r : Option ℕ) (R : ℕ → ℕ → Type 0) → ((h y : ℕ) → h < handles → R h y → y ≡ h)
+    → MatchOption o (AllWithin (λ d. owns d b ≡ false) s.connections 0 (length s.connections))
+    (λ h. (h < length s.connections) × HoldsAt (λ d. owns d b ≡ true) s.connections h × AllWithin (λ d. owns d b ≡ false) s.connections 0 h)
+    → MatchOption o (r ≡ None) (λ h. IsSomeAnd r (R h)) → OwnerSays s b r
+said s b n None None R is w m = sym (owner_none s b (λ j l. w j nobody (omega arith) (omega arith)))
+said s b n None (Some y) R is w m = cc
+said s b n (Some h) None R is w m = absurd m
+said s b n (Some h) (Some y) R is w m =
+    let l : h < handles = omega (arith, w.0) in
+    let same : y ≡ h = is h y l m in
+    rw same (sym (owner_found s b h l (w.1 nobody) (λ j q. w.2 j nobody (omega arith) q)))
 
 pub returns : goal.returns
 returns c =
-    let l = c.loop-h in
     let a = c.args in
-    sym (owner_none a.s a.block (λ j m. l.invariant j (omega arith)))
+    let first = IsFirst-from_position _ _ c.position.result (λ d. owns d a.block ≡ true) (λ d. owns d a.block ≡ false) c.position.ensures.ran (YieldsList-from_slice a.s.connections cc)
+    (λ x q k. search (rules, tests)) (λ x q k. search (rules, tests)) in
+    said a.s a.block c.requires.places c.position.result c.map.result _ (λ h y l k. search (rules, tests)) first c.map.ensures.cases

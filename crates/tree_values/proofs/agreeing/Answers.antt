@@ -4,6 +4,6 @@ use Rattle.tree_values.proofs.agreeing.Goals as goal
 
 -- A width of the tree has at most 512 numbers.
 pub returns : goal.returns
-returns c =
-    let most : 2 ^ c.args.k ≤ 512 = pow_mono c.requires in
+returns g c =
+    let most : 2 ^ c.args.k ≤ 512 = pow_mono c.requires.deep in
     search rules
