@@ -20,7 +20,7 @@ ghost use Rattle.rules.specs.Answers.{
 };
 ghost use Rattle.rules.specs.Messages.{subrate_values, change_values};
 ghost use Rattle.rules.specs.Words.{words_of, longest_answer, longest_message};
-ghost use Rattle.text.specs.Promises.{PutsWithin};
+ghost use Rattle.text.specs.Promises.{PutsWithin, longest_refusal};
 ghost use Rattle.answer.specs.Promises.{longest_count, PutsWords, PutsCounted, PutsAnswer};
 
 use rules::{Adjusted, Message, Placed, Refusal, Reply, SubrateChange, Subrates};
@@ -59,11 +59,11 @@ fn put_or_refused<T, F: FnOnce(&mut [u8], T) -> usize>(
     answer: Result<T, Refusal>,
     put: F,
 ) -> usize
-    requires room { at + 13 ≤ length out.old }
+    requires room { at + longest_refusal ≤ length out.old }
     requires called { (p : MutBor (List ℕ)) (v : T) → answer ≡ Ok v → p.now ≡ out.old → F.pre put p v }
     ensures { MatchResult answer
         (λ v. (p q : MutBor (List ℕ)) × (p.now ≡ out.old) × (q.now ≡ out.new) × F.post put p v result q)
-        (λ r. PutsWithin 13 out.old at (words_of (refused_with (number r))) out.new result) }
+        (λ r. PutsWithin longest_refusal out.old at (words_of (refused_with (number r))) out.new result) }
 {
     match answer {
         Ok(v) => put(out, v),

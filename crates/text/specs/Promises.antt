@@ -31,3 +31,7 @@ pub record Puts (entry : List ℕ) (at : ℕ) (bytes exit : List ℕ) (next : �
 pub record PutsWithin (most : ℕ) (entry : List ℕ) (at : ℕ) (bytes exit : List ℕ) (next : ℕ) : Type 0 where
   pub puts : Puts entry at bytes exit next
   pub room : next ≤ at + most
+
+-- The most bytes of the words of a refusal: `no`, a space and ten digits.
+abbrev pub longest_refusal : ℕ
+longest_refusal = 13

@@ -5,7 +5,7 @@ ghost use Rattle.rules.specs.Refusals.{number};
 ghost use Rattle.rules.specs.Decimal.{decimal};
 ghost use Rattle.rules.specs.Answers.{refused};
 ghost use Rattle.rules.specs.Words.{spaced, words_of};
-ghost use Rattle.text.specs.Promises.{Puts, PutsWithin};
+ghost use Rattle.text.specs.Promises.{Puts, PutsWithin, longest_refusal};
 
 use rules::Refusal;
 
@@ -96,8 +96,8 @@ pub fn refusal_number(r: Refusal) -> u32
 
 /// The words of a refusal.
 pub fn put_refused(out: &mut [u8], at: usize, r: Refusal) -> usize
-    requires { at + 13 ≤ length out.old }
-    ensures { PutsWithin 13 out.old at (words_of (refused (number r))) out.new result }
+    requires { at + longest_refusal ≤ length out.old }
+    ensures { PutsWithin longest_refusal out.old at (words_of (refused (number r))) out.new result }
 {
     put_count(out, at, b"no", refusal_number(r))
 }

@@ -1,4 +1,4 @@
-use Rattle.std.proofs.Common.{◌≡◌, ◌+◌, ◌-◌, ◌<◌, ◌≤◌, suc, arith, sym, ap, ◌∙◌, List, ◌++◌, ◌∷◌, length, take, drop, ℕ}
+use Rattle.std.proofs.Common.{◌≡◌, ◌+◌, ◌-◌, ◌≤◌, suc, arith, sym, ap, ◌∙◌, ◌++◌, ◌∷◌, length, take, drop, ℕ}
 use lib.ListN.{length-take, length-drop}
 use lib.Seq.{take_all}
 use Rattle.rules.specs.Split.{before}
