@@ -27,7 +27,7 @@ room_said line c e = omega (arith, ap (λ (l : List ℕ). length l) (says_only l
 module _ (s : Schedule) (line entry exit : List ℕ) (start next : ℕ) where
   -- What a line prints and leaves, by what it says.
   carried_as : {l : Option Command} {p : Printed} {after : Schedule} → says line ≡ l → carried_out s l ≡ p → after ≡ p.schedule → Good after
-      → PutsLine entry start p.words exit next → next ≤ start + 4 * (length line + 1) → Carries s line entry start exit (record { schedule = after; at = next })
+      → PutsLine entry start p.words exit next → next ≤ start + 4 * (length line + 1) → Carries s line entry start exit after next
   carried_as {l} {p} {after} e h q good puts room =
       let same : p ≡ carried_out s (says line) = sym (ap (carried_out s) e ∙ h) in
       record {
@@ -38,13 +38,13 @@ module _ (s : Schedule) (line entry exit : List ℕ) (start next : ℕ) where
       }
 
   -- "a bad line changes nothing"
-  pub carried_bad : Good s → says line ≡ None → Puts entry start (text "bad\n") exit next → Carries s line entry start exit (record { schedule = s; at = next })
+  pub carried_bad : Good s → says line ≡ None → Puts entry start (text "bad\n") exit next → Carries s line entry start exit s next
   unfolding carried_out
   carried_bad good e puts = carried_as e refl refl good puts (omega (arith, puts.ends))
 
   -- A command prints its answer.
   pub carried_said : (c : Command) (r : Done Reply) → says line ≡ Some c → Obeys s c r → PutsAnswer entry start (of_reply r.answer) exit next
-      → Carries s line entry start exit (record { schedule = r.schedule; at = next })
+      → Carries s line entry start exit r.schedule next
   unfolding carried_out
   carried_said c r e o puts =
       carried_as e

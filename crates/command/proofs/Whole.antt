@@ -16,7 +16,6 @@ use Rattle.texts.proofs.SplitLaws.{Without, before_without}
 use Rattle.command.proofs.ProgramLaws.{answered_line, answered_tail, answered_nothing, program_long, program_answered}
 use Rattle.text.specs.Promises.{Puts}
 use Rattle.text.proofs.Putting.{puts_after}
-use Rattle.command.specs.declared.Carried.{Carried}
 use Rattle.command.specs.Promises.{Carries, Prints, Runs}
 
 drop_replicate : (k n a : ℕ) → drop k (replicate n a) ≡ replicate (n - k) a
@@ -50,8 +49,8 @@ so_far_none input entry s e good =
 module _ (input entry exit rest : List ℕ) (s : Schedule) (at : ℕ) (f : SoFar input entry exit rest s at) where
   -- A whole line more.
   pub so_far_line : (line later : List ℕ) → (line ≡ before (byte "\n") rest) × (rest ≡ line ++ byte "\n" ∷ later)
-      → {new : List ℕ} {r : Carried} → Carries s line exit at new r → SoFar input entry new later r.schedule r.at
-  so_far_line line later e {new} {r} k =
+      → {new : List ℕ} {after : Schedule} {n : ℕ} → Carries s line exit at new after n → SoFar input entry new later after n
+  so_far_line line later e {new} {after} {n} k =
       let clean : Without (byte "\n") line = subst (Without (byte "\n")) (sym e.0) (before_without (byte "\n") rest) in
       let words = (carried_out s (says line)).words in
       let next = (carried_out s (says line)).schedule in

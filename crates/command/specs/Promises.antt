@@ -16,7 +16,6 @@ use Rattle.rules.specs.Commands.{says}
 use Rattle.rules.specs.Program.{most_output, carried_out, program}
 use Rattle.text.specs.Promises.{Puts}
 use Rattle.answer.specs.Promises.{PutsLine}
-use Rattle.command.specs.declared.Carried.{Carried}
 use Rattle.command.specs.declared.Output.{Output}
 
 -- The reply is of the command's own kind.
@@ -35,11 +34,11 @@ pub record Obeys (s : Schedule) (c : Command) (r : Done Reply) : Type 0 where
   pub good : Good r.schedule
 
 -- A line is carried out: its words are put, and its schedule is left. They are at most four bytes for each of its own.
-pub record Carries (s : Schedule) (line entry : List ℕ) (at : ℕ) (exit : List ℕ) (r : Carried) : Type 0 where
-  pub prints : PutsLine entry at (carried_out s (says line)).words exit r.at
-  pub leaves : r.schedule ≡ (carried_out s (says line)).schedule
-  pub good : Good r.schedule
-  pub room : r.at ≤ at + 4 * (length line + 1)
+pub record Carries (s : Schedule) (line entry : List ℕ) (at : ℕ) (exit : List ℕ) (after : Schedule) (next : ℕ) : Type 0 where
+  pub prints : PutsLine entry at (carried_out s (says line)).words exit next
+  pub leaves : after ≡ (carried_out s (says line)).schedule
+  pub good : Good after
+  pub room : next ≤ at + 4 * (length line + 1)
 
 -- What the input prints is put at the buffer's start, and fits.
 pub record Prints (input entry exit : List ℕ) (n : ℕ) : Type 0 where

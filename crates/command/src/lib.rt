@@ -5,15 +5,8 @@ mod obeying;
 mod running;
 
 pub use obeying::obey;
-use rules::{MOST_OUTPUT, Schedule};
+use rules::MOST_OUTPUT;
 pub use running::run;
-
-// The schedule after a line, and the place after what it printed; no `Done`, as a place is no answer.
-#[derive(Clone, Copy)]
-struct Carried {
-    pub schedule: Schedule,
-    pub at: usize,
-}
 
 /// The bytes that an input prints, from the start, and how many they are. No `Vec`: there is no heap;
 /// and `Runs` speaks of the bytes past the count too.

@@ -5,31 +5,25 @@ ghost use Rattle.rules.specs.Program.{most_output};
 ghost use Rattle.command.specs.Promises.{Carries, Prints, Runs};
 
 use crate::obeying::obey;
-use crate::{Carried, Output};
+use crate::Output;
 use answer::put_reply;
 use line::says;
 use rules::{MOST_INPUT, MOST_OUTPUT, Schedule};
 use schedule::fresh;
 use text::{put_word, split_line};
 
-// Carries a line out, and writes what it prints.
-fn carry_out(s: Schedule, line: &[u8], out: &mut [u8], at: usize) -> Carried
-    requires { Good s × (at + 4 * (length line.now + 1) ≤ length out.old) }
-    ensures { Carries s line.now out.old at out.new result }
+// Carries a line out on the lent schedule, and writes what it prints; then comes the place after
+// that. By value a schedule would be copied for each line, a bad one too (docs/BENCH.md).
+fn carry_out(s: &mut Schedule, line: &[u8], out: &mut [u8], at: usize) -> usize
+    requires { Good s.old × (at + 4 * (length line.now + 1) ≤ length out.old) }
+    ensures { Carries s.old line.now out.old at out.new s.new result }
 {
     match says(line) {
-        None => {
-            Carried {
-                schedule: s,
-                at: put_word(out, at, b"bad\n"),
-            }
-        }
+        None => put_word(out, at, b"bad\n"),
         Some(command) => {
-            let done = obey(s, command);
-            Carried {
-                schedule: done.schedule,
-                at: put_reply(out, at, done.answer),
-            }
+            let done = obey(*s, command);
+            *s = done.schedule;
+            put_reply(out, at, done.answer)
         }
     }
 }
@@ -46,9 +40,7 @@ fn answer_all(input: &[u8], out: &mut [u8]) -> usize
     let mut at = 0;
     let mut rest = input;
     while let Some((line, later)) = split_line(rest) {
-        let done = carry_out(s, line, out, at);
-        s = done.schedule;
-        at = done.at;
+        at = carry_out(&mut s, line, out, at);
         rest = later;
     }
     // a tail is a bad line

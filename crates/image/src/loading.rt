@@ -12,7 +12,9 @@ fn read_image(bytes: &[u8], new: &mut Schedule) -> Result<u8, Refusal>
 {
     let n = framed(bytes)?;
     check_records(bytes, usize::from(n))?;
-    let Ok(end) = restore(bytes, usize::from(n), new) else {
+    let restored = restore(bytes, usize::from(n));
+    *new = restored.schedule;
+    let Ok(end) = restored.answer else {
         return Err(Refusal::BlockOwnedTwice);
     };
     if bytes[end + HEADER_SIZE..] != new.tree.bytes[..] {
@@ -26,7 +28,7 @@ pub fn load(s: Schedule, bytes: &[u8]) -> Done<Result<u8, Refusal>>
     requires { Good s }
     ensures { Loads s bytes.now result }
 {
-    // a place for the new one: what is restored begins from a fresh schedule
+    // a place for the new one, which what is restored takes as a whole
     let mut new = s;
     let answer = read_image(bytes, &mut new);
     Done {

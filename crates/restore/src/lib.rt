@@ -14,8 +14,8 @@ ghost use Rattle.restore.specs.LoadSteps.{of_soundness, records_step};
 ghost use Rattle.restore.specs.Promises.{Reads, records, Restores};
 
 use rules::{
-    BLOCK_MICROS, CONNECTION_RECORD, CONNECTION_SIZE, COUNT_RECORD, Connection, HANDLES,
-    HEADER_SIZE, LARGEST_K, LARGEST_RECORD_K, Refusal, Schedule,
+    BLOCK_MICROS, CONNECTION_RECORD, CONNECTION_SIZE, COUNT_RECORD, Connection, Done, HANDLES,
+    HEADER_SIZE, LARGEST_K, LARGEST_RECORD_K, Refusal,
 };
 use run::{factor, fresh, run_free, set_run};
 
@@ -102,23 +102,29 @@ pub fn check_records(bytes: &[u8], n: usize) -> Result<(), Refusal>
 
 /// Check 11: the connections of the records with their tree, taken one after the other on an empty
 /// tree. Answers where the record after them begins; or, as an error, where the first begins that
-/// owns a block of those before it.
-pub fn restore(bytes: &[u8], n: usize, new: &mut Schedule) -> Result<usize, usize>
+/// owns a block of those before it; and leaves those that it took.
+pub fn restore(bytes: &[u8], n: usize) -> Done<Result<usize, usize>>
     requires { Framed bytes.now n × (records_within largest_k (records bytes.now) ≡ true) }
-    ensures { Restores bytes.now new.new result }
+    ensures { Restores bytes.now result.schedule result.answer }
 {
-    *new = fresh();
+    let mut new = fresh();
     for (i, record) in connection_records(bytes, n).iter().enumerate() {
         let payload = &record[HEADER_SIZE..];
         let c = connection_in(payload);
         let k = u32::from(c.k);
         let length = u32::from(c.length);
         if !run_free(&new.tree.bytes, k, c.anchor, length) {
-            return Err(COUNT_RECORD + i * CONNECTION_RECORD);
+            return Done {
+                answer: Err(COUNT_RECORD + i * CONNECTION_RECORD),
+                schedule: new,
+            };
         }
         set_run(&mut new.tree.bytes, k, c.anchor, 0, length, true);
         let h = usize::from(handle_in(payload));
         new.connections[h] = c;
     }
-    Ok(COUNT_RECORD + n * CONNECTION_RECORD)
+    Done {
+        answer: Ok(COUNT_RECORD + n * CONNECTION_RECORD),
+        schedule: new,
+    }
 }

@@ -15,7 +15,7 @@ use Rattle.restore.proofs.restore.Goals as goal
 use Rattle.restore.proofs.restore.Goals.{After-connection_in-c, After-from-h, In-loop-i}
 
 pub loop-i-init : goal.loop-i-init
-loop-i-init c = taken_none _ c.fresh.result c.fresh.ensures.is
+loop-i-init c = taken_none _ c.fresh-new.result c.fresh-new.ensures.is
 
 -- record i is one of them
 here : (c : In-loop-i) → c.loop-i.i < length (records c.args.bytes.now)

@@ -10,7 +10,7 @@ returns-then-input-gt-MOST_INPUT c =
 pub loop-line-preserved : goal.loop-line-preserved
 loop-line-preserved c =
     let l = c.loop-line in
-    so_far_line c.args.input.now c.args.out.now l.out l.rest.now l.s l.at l.invariant c.in-Some.line.now c.in-Some.later.now c.in-Some.ensures c.carry_out-done.ensures
+    so_far_line c.args.input.now c.args.out.now l.out l.rest.now l.s l.at l.invariant c.in-Some.line.now c.in-Some.later.now c.in-Some.ensures c.carry_out-at.ensures
 
 pub returns-then-is_empty : goal.returns-then-is_empty
 returns-then-is_empty c =

@@ -1,4 +1,8 @@
-use Rattle.std.proofs.Common.{arith, ◌≡◌, ◌+◌}
+use Rattle.std.proofs.Common.{arith, ◌≡◌, ◌+◌, List, ℕ}
+use mathlib.Core.Path.{subst}
+use Rattle.std.specs.Prelude.{Result}
+use Rattle.rules.specs.declared.Schedule.{Schedule}
+use Rattle.restore.specs.Promises.{Restores}
 use Rattle.std.proofs.lemmas.Result.{err_from_is_err_and}
 use lib.ListN.{length}
 use Rattle.rules.specs.TreeBytes.{tree_bytes}
@@ -23,20 +27,24 @@ returns-in_err-check_records c s =
     (refused_records _ c.type_inv.bytes _ c.in_ok-n.ensures _ c.in_err-check_records.ensures s)
 
 -- checks 10 and 18 are passed
-pub restore-requires : goal.restore-requires
-restore-requires c =
+pub restore-restored-requires : goal.restore-restored-requires
+restore-restored-requires c =
     rw c.from-2.ensures (c.in_ok-n.ensures, checked_sound _ c.in_ok-check_records.ensures)
+
+-- by the answer that it is
+restored_as : {bytes : List ℕ} {new : Schedule} {a b : Result ℕ ℕ} → a ≡ b → Restores bytes new a → Restores bytes new b
+restored_as {bytes} {new} e p = subst (Restores bytes new) e p
 
 pub returns-in_default : goal.returns-in_default
 returns-in_default c s =
     let sound = checked_sound _ c.in_ok-check_records.ensures in
-    owned_twice_lem _ c.type_inv.bytes _ c.in_ok-n.ensures sound c.in_default.ensures.says.0 s
+    owned_twice_lem _ c.type_inv.bytes _ c.in_ok-n.ensures sound (restored_as c.in_default.is c.restore-restored.ensures).says.0 s
 
 -- where the tree's bytes are
 place : (c : In-Ok) → c.in-Ok.end + 4 + tree_bytes ≡ length c.args.bytes.now
 place c =
     let sound = checked_sound _ c.in_ok-check_records.ensures in
-    tree_last _ c.type_inv.bytes _ c.in_ok-n.ensures sound _ _ c.in-Ok.ensures
+    tree_last _ c.type_inv.bytes _ c.in_ok-n.ensures sound _ _ (restored_as c.in-Ok.is c.restore-restored.ensures)
 
 pub overflow_add-end : goal.overflow_add-end
 overflow_add-end c = omega (arith, place c)
@@ -50,9 +58,9 @@ slice_bounds-ne-start c = omega (arith, place c)
 pub returns-then-ne : goal.returns-then-ne
 returns-then-ne c =
     let sound = checked_sound _ c.in_ok-check_records.ensures in
-    differs _ c.type_inv.bytes _ c.in_ok-n.ensures sound _ _ c.in-Ok.ensures c.if-ne.ensures
+    differs _ c.type_inv.bytes _ c.in_ok-n.ensures sound _ _ (restored_as c.in-Ok.is c.restore-restored.ensures) c.if-ne.ensures
 
 pub returns : goal.returns
 returns c =
     let sound = checked_sound _ c.in_ok-check_records.ensures in
-    accepted _ c.type_inv.bytes _ c.in_ok-n.ensures sound _ _ c.in-Ok.ensures c.if-ne.ensures
+    accepted _ c.type_inv.bytes _ c.in_ok-n.ensures sound _ _ (restored_as c.in-Ok.is c.restore-restored.ensures) c.if-ne.ensures
