@@ -4,8 +4,8 @@ ghost use Rattle.rules.specs.Good.{Good};
 ghost use Rattle.rules.specs.Program.{most_output};
 ghost use Rattle.command.specs.Promises.{Carries, Prints, Runs};
 
-use crate::obeying::obey;
 use crate::Output;
+use crate::obeying::obey;
 use answer::put_reply;
 use line::says;
 use rules::{MOST_INPUT, MOST_OUTPUT, Schedule};
