@@ -28,7 +28,7 @@ pub fn load(s: Schedule, bytes: &[u8]) -> Done<Result<u8, Refusal>>
     requires { Good s }
     ensures { Loads s bytes.now result }
 {
-    // a place for the new one, which what is restored takes as a whole
+    // a place for the new one: `read_image` writes it whole, and it counts where all is accepted
     let mut new = s;
     let answer = read_image(bytes, &mut new);
     Done {

@@ -18,7 +18,7 @@ use rules::{
 fn live(connections: &[Connection; HANDLES]) -> usize
     ensures { result ≡ length (connection_pieces 0 connections.now) }
 {
-    // by a loop: the compiler takes that many at a time, and `filter` and `count` one by one
+    // a `for`: the compiler counts many at a time so, and by `filter` and `count` one by one
     let mut n: usize = 0;
     for c in connections {
         if c.live {

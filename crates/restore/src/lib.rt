@@ -102,7 +102,7 @@ pub fn check_records(bytes: &[u8], n: usize) -> Result<(), Refusal>
 
 /// Check 11: the connections of the records with their tree, taken one after the other on an empty
 /// tree. Answers where the record after them begins; or, as an error, where the first begins that
-/// owns a block of those before it; and leaves those that it took.
+/// owns a block of those before it; and leaves the schedule of those that it took.
 pub fn restore(bytes: &[u8], n: usize) -> Done<Result<usize, usize>>
     requires { Framed bytes.now n × (records_within largest_k (records bytes.now) ≡ true) }
     ensures { Restores bytes.now result.schedule result.answer }
